@@ -1,5 +1,6 @@
 -- What is published is open, and no settled box is.
 use Rattle.std.proofs.Common.{◌≡◌, ℕ, ◌+◌, ◌≤◌, cond, List, arith}
+use Rattle.box_tree.specs.InRanges.{at_bool}
 use Rattle.accounts.specs.declared.book.OpenBox.{OpenBox}
 use Rattle.accounts.specs.Paths.{Cuts}
 use Rattle.accounts.specs.Weights.{one, times}
@@ -10,7 +11,6 @@ use Rattle.accounts.specs.Sums.{one_same}
 use Rattle.accounts.proofs.Sums.{IsAmong, each_weighs, each_weaker, each_fits, open_le, open_plus}
 use Rattle.accounts.proofs.Sums.{whole_total}
 use Rattle.accounts.proofs.Once.{pushed_once_of_cuts}
-use Rattle.box_tree.specs.InRanges.{at_bool}
 
 -- the weight of a box whose entry wasn't published; others weigh nothing
 abbrev if_hidden : (List ℕ → ℕ) → OpenBox → ℕ

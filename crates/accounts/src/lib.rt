@@ -1,8 +1,6 @@
 //! What became of each box, as a plain machine over events.
 #![tactic(auto)]
 
-// What callers name of the crates below.
-pub use box_tree::Plan;
 
 mod book;
 mod cuts;
@@ -14,8 +12,5 @@ mod start;
 
 pub use cuts::Cuts;
 pub use event::{Event, EventRefused};
-pub use laws::{
-    balanced_accounts, boxes_cover, each_is_pushed_once, is_balanced, published_are_open,
-    ranges_are_covered, settled_are_leaves,
-};
+pub use laws::{balanced_accounts, boxes_cover, each_is_pushed_once, is_balanced, published_are_open, ranges_are_covered, settled_are_leaves};
 pub use machine::Core;

@@ -1,9 +1,9 @@
 //! The machine over events.
 ghost use Rattle.std.specs.Prelude.{◌≡◌, ◌≤◌, ◌↔◌, IfOk, IfErr, OnOk, OnErr, Some, None, slice_get};
 ghost use Rattle.std.specs.Prelude.{◌&&◌, not, nat_lt};
+ghost use Rattle.std.specs.Str.{bytes_eq};
 ghost use Rattle.accounts.specs.Events.{after, take_by, publish_by, settle_by, hold_by, push_by};
 ghost use Rattle.accounts.specs.Paths.{child};
-ghost use Rattle.std.specs.Str.{bytes_eq};
 ghost use Rattle.accounts.specs.declared.event.EventRefused.TheVariants.{NotEnabled};
 ghost use Rattle.accounts.specs.declared.event.Event.TheVariants.{Steal};
 ghost use Rattle.accounts.specs.Account.{at_start};

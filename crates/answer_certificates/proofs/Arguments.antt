@@ -4,35 +4,31 @@ use Rattle.std.proofs.Common.{arith}
 use Rattle.std.proofs.lemmas.Option.{slice_get_within}
 use Rattle.fx_model.specs.declared.ExprId.{ExprId}
 use Rattle.fx_model.specs.declared.Node.{Node}
+use Rattle.pair_closure.specs.Closure.{Pair}
 use Rattle.facts.specs.declared.hint.HintRow.{HintRow}
 use Rattle.facts.specs.declared.instance.Instance.{Instance}
-use Rattle.settler.specs.rule_universe.pair_closure.Closure.{Pair}
-use Rattle.settler.specs.rule_instances.Instances.{OfAny, OfOperation, OfError, OfTerms, OfChain}
-use Rattle.settler.specs.rule_instances.Instances.{OfPair, OfHint, IsInstance}
-use Rattle.settler.specs.rule_instances.Instances.IsInstance.{of_any, of_operation, of_error}
-use Rattle.settler.specs.rule_instances.Instances.IsInstance.{of_terms, of_chain, of_pair, of_hint}
-use Rattle.settler.specs.rule_instances.Instances.OfAny.{rule_11, rule_12, rule_13, rule_27}
-use Rattle.settler.specs.rule_instances.Instances.OfAny.{rule_28, rule_31, rule_32, rule_90}
-use Rattle.settler.specs.rule_instances.Instances.OfAny.{rule_91}
-use Rattle.settler.specs.rule_instances.Instances.OfOperation.{rule_1, rule_21, rule_2, rule_16}
-use Rattle.settler.specs.rule_instances.Instances.OfOperation.{rule_22, rule_35, rule_3}
-use Rattle.settler.specs.rule_instances.Instances.OfOperation.{rule_19_sum, rule_23_sum, rule_4}
-use Rattle.settler.specs.rule_instances.Instances.OfOperation.{rule_19_difference}
-use Rattle.settler.specs.rule_instances.Instances.OfOperation.{rule_23_difference, rule_5, rule_6}
-use Rattle.settler.specs.rule_instances.Instances.OfOperation.{rule_17, rule_24, rule_33, rule_7}
-use Rattle.settler.specs.rule_instances.Instances.OfOperation.{rule_8, rule_9, rule_18, rule_34}
-use Rattle.settler.specs.rule_instances.Instances.OfOperation.{rule_10, rule_14, rule_15, rule_25}
-use Rattle.settler.specs.rule_instances.Instances.OfOperation.{rule_26, rule_41}
-use Rattle.settler.specs.rule_instances.Instances.OfError.{rule_42, rule_43, rule_44}
-use Rattle.settler.specs.rule_instances.Instances.OfTerms.{rule_71, rule_72, rule_73, rule_74}
-use Rattle.settler.specs.rule_instances.Instances.OfChain.{rule_75, rule_76}
-use Rattle.settler.specs.rule_instances.Instances.OfPair.{rule_36_second, rule_36_first, rule_51}
-use Rattle.settler.specs.rule_instances.Instances.OfPair.{rule_52, rule_53, rule_54, rule_55}
-use Rattle.settler.specs.rule_instances.Instances.OfPair.{rule_56, rule_57, rule_58, rule_59}
-use Rattle.settler.specs.rule_instances.Instances.OfPair.{rule_60, rule_61, rule_77, rule_78}
-use Rattle.settler.specs.rule_instances.Instances.OfPair.{rule_92}
-use Rattle.settler.specs.rule_instances.Instances.OfHint.{rule_80_bound, rule_80_size}
-use Rattle.settler.specs.rule_instances.Instances.OfHint.{rule_80_multiple, rule_80_nonzero}
+use Rattle.rule_instances.specs.Instances.{OfAny, OfOperation, OfError, OfTerms, OfChain, OfPair}
+use Rattle.rule_instances.specs.Instances.{OfHint, IsInstance}
+use Rattle.rule_instances.specs.Instances.IsInstance.{of_any, of_operation, of_error, of_terms}
+use Rattle.rule_instances.specs.Instances.IsInstance.{of_chain, of_pair, of_hint}
+use Rattle.rule_instances.specs.Instances.OfAny.{rule_11, rule_12, rule_13, rule_27, rule_28}
+use Rattle.rule_instances.specs.Instances.OfAny.{rule_31, rule_32, rule_90, rule_91}
+use Rattle.rule_instances.specs.Instances.OfOperation.{rule_1, rule_21, rule_2, rule_16, rule_22}
+use Rattle.rule_instances.specs.Instances.OfOperation.{rule_35, rule_3, rule_19_sum, rule_23_sum}
+use Rattle.rule_instances.specs.Instances.OfOperation.{rule_4, rule_19_difference}
+use Rattle.rule_instances.specs.Instances.OfOperation.{rule_23_difference, rule_5, rule_6, rule_17}
+use Rattle.rule_instances.specs.Instances.OfOperation.{rule_24, rule_33, rule_7, rule_8, rule_9}
+use Rattle.rule_instances.specs.Instances.OfOperation.{rule_18, rule_34, rule_10, rule_14, rule_15}
+use Rattle.rule_instances.specs.Instances.OfOperation.{rule_25, rule_26, rule_41}
+use Rattle.rule_instances.specs.Instances.OfError.{rule_42, rule_43, rule_44}
+use Rattle.rule_instances.specs.Instances.OfTerms.{rule_71, rule_72, rule_73, rule_74}
+use Rattle.rule_instances.specs.Instances.OfChain.{rule_75, rule_76}
+use Rattle.rule_instances.specs.Instances.OfPair.{rule_36_second, rule_36_first, rule_51, rule_52}
+use Rattle.rule_instances.specs.Instances.OfPair.{rule_53, rule_54, rule_55, rule_56, rule_57}
+use Rattle.rule_instances.specs.Instances.OfPair.{rule_58, rule_59, rule_60, rule_61, rule_77}
+use Rattle.rule_instances.specs.Instances.OfPair.{rule_78, rule_92}
+use Rattle.rule_instances.specs.Instances.OfHint.{rule_80_bound, rule_80_size, rule_80_multiple}
+use Rattle.rule_instances.specs.Instances.OfHint.{rule_80_nonzero}
 
 module _ (nodes : List Node) (P : Pair → Type 0) where
   any_arg : (x : ExprId) (i : Instance) → OfAny x i → i.arg ≡ 0

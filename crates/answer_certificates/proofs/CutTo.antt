@@ -26,14 +26,14 @@ use Rattle.facts.specs.declared.fact.Slot.TheVariants as slot
 use Rattle.facts.specs.Order.{slot_of, IsStronger}
 use Rattle.facts.specs.Laws.{IsStronger-trans, IsStronger-meet, meet_exists}
 use Rattle.facts.specs.Conclusions.{bnd_of}
-use Rattle.tree_certificates.specs.derivation.Derivations.{At}
-use Rattle.settler.specs.box_tree.declared.range.SplitRange.{SplitRange}
-use Rattle.settler.specs.box_tree.Ranges.{IsWithin}
-use Rattle.settler.specs.box_tree.Points.{piece_of}
-use Rattle.tree_certificates.specs.cert_checker.Contexts.{low_end, high_end, piece_fact}
+use Rattle.derivation.specs.Derivations.{At}
+use Rattle.box_tree.specs.declared.range.SplitRange.{SplitRange}
+use Rattle.box_tree.specs.Ranges.{IsWithin}
+use Rattle.box_tree.specs.Points.{piece_of}
+use Rattle.box_tree.specs.InRanges.{within_at}
+use Rattle.cert_checker.specs.Contexts.{low_end, high_end, piece_fact}
 use Rattle.tree_certificates.specs.Traces.{IsCutTo}
 use Rattle.tree_certificates.specs.Trees.{cut_of, ArePoints}
-use Rattle.settler.specs.box_tree.InRanges.{within_at}
 use Rattle.tree_certificates.specs.Cited.{differs}
 
 -- ---- the ends of pieces

@@ -8,22 +8,20 @@ use Rattle.std.proofs.lemmas.Bool.{and_parts}
 use Rattle.fx_model.specs.declared.ExprId.{ExprId}
 use Rattle.dyadic.specs.declared.number.Dyadic.{Dyadic}
 use Rattle.dyadic.specs.Rising.{IsRising, rising_more}
-use Rattle.script_checker.specs.script_hints.declared.hint.Cutting.{Cutting}
-use Rattle.script_checker.specs.script_hints.declared.hint.Cutting.TheVariants as cutting
-use Rattle.script_checker.specs.script_hints.declared.hint.Split.{Split}
-use Rattle.script_checker.specs.script_hints.Few.{HasFewPieces, HaveFewPieces}
-use Rattle.settler.specs.box_tree.declared.next.Next.{Next}
-use Rattle.settler.specs.box_tree.declared.next.Next.TheVariants as next
-use Rattle.settler.specs.box_tree.declared.range.SplitRange.{SplitRange}
-use Rattle.settler.specs.box_tree.Ranges.{IsWithin, is_inside, range_in}
-use Rattle.settler.specs.box_tree.Points.{is_above_last, with_point, with_points, parts_from}
-use Rattle.settler.specs.box_tree.Points.{asked_points, cut_points, middle, half_point}
-use Rattle.settler.specs.box_tree.Regions.{PlanParts, Region, points_in, forced_or, next_forced}
-use Rattle.settler.specs.box_tree.Regions.{half_in, halved_or, next_half, turned, half_of}
-use Rattle.settler.specs.box_tree.Regions.{else_next, next_of}
+use Rattle.script_hints.specs.declared.hint.Cutting.{Cutting}
+use Rattle.script_hints.specs.declared.hint.Cutting.TheVariants as cutting
+use Rattle.script_hints.specs.declared.hint.Split.{Split}
+use Rattle.script_hints.specs.Few.{HasFewPieces, HaveFewPieces}
+use Rattle.box_tree.specs.declared.next.Next.{Next}
+use Rattle.box_tree.specs.declared.next.Next.TheVariants as next
+use Rattle.box_tree.specs.declared.range.SplitRange.{SplitRange}
+use Rattle.box_tree.specs.Ranges.{IsWithin, is_inside, range_in}
+use Rattle.box_tree.specs.Points.{is_above_last, with_point, with_points, parts_from, asked_points}
+use Rattle.box_tree.specs.Points.{cut_points, middle, half_point}
+use Rattle.box_tree.specs.Regions.{PlanParts, Region, points_in, forced_or, next_forced, half_in}
+use Rattle.box_tree.specs.Regions.{halved_or, next_half, turned, half_of, else_next, next_of}
+use Rattle.box_tree.specs.InRanges.{at_bool, inside_within, above_in, append_within, few_behind}
 use Rattle.tree_certificates.specs.Trees.{ArePoints}
-use Rattle.settler.specs.box_tree.InRanges.{at_bool, inside_within, above_in, append_within}
-use Rattle.settler.specs.box_tree.InRanges.{few_behind}
 
 -- The range of x, in which the points lie; and there are 1 to 63 that rise.
 pub record IsCutAlong (ranges : List SplitRange) (x : ExprId) (points : List Dyadic) : Type 0 where

@@ -5,18 +5,18 @@ use Rattle.script_words.specs.declared.class.Symbol.TheVariants as s
 use Rattle.script_words.specs.Words.{Word, sign}
 use Rattle.script_shape.specs.declared.due.Due.{Due}
 use Rattle.script_shape.specs.declared.due.Due.TheVariants as d
-use Rattle.script_shape.specs.Tree.{Formula, single, and, or, implies, Script, formula, define}
+use Rattle.script_shape.specs.Propositions.{Formula, single, and, or, implies}
+use Rattle.script_shape.specs.Tree.{Script, formula, define}
 use Rattle.script_shape.specs.Roles.{Leaf, at, stated_leaves, formula_leaves, hints_leaves}
 use Rattle.script_shape.specs.Roles.{definition_leaves, script_leaves}
-use Rattle.script_checker.specs.script_judge.declared.counts.ScriptPart.{ScriptPart}
-use Rattle.script_checker.specs.script_judge.declared.counts.ScriptPart.TheVariants as place
-use Rattle.script_checker.specs.script_judge.Counts.{one_if, is_first, begins_proposition}
-use Rattle.script_checker.specs.script_judge.Counts.{place_after}
-use Rattle.script_checker.specs.script_judge.Judge.{Seen, seen_after, Judged, nothing_seen}
-use Rattle.script_checker.specs.script_nodes.Known.{Known}
-use Rattle.script_checker.specs.script_nodes.Definitions.{definition_value}
-use Rattle.script_checker.specs.script_claims.Claims.{stated_claim, formula_claims}
-use Rattle.script_checker.specs.script_grammar.Meaning.{meaning_from}
+use Rattle.script_judge.specs.declared.counts.ScriptPart.{ScriptPart}
+use Rattle.script_judge.specs.declared.counts.ScriptPart.TheVariants as place
+use Rattle.script_judge.specs.Counts.{one_if, is_first, begins_proposition, place_after}
+use Rattle.script_judge.specs.Judge.{Seen, seen_after, Judged, nothing_seen}
+use Rattle.script_nodes.specs.Known.{Known}
+use Rattle.script_nodes.specs.Definitions.{definition_value}
+use Rattle.script_claims.specs.Claims.{stated_claim, formula_claims}
+use Rattle.script_grammar.specs.Meaning.{meaning_from}
 use Rattle.answer_certificates.proofs.Passed.{one_passed, within_limits}
 
 -- the words that stand between two propositions

@@ -5,7 +5,7 @@ use Rattle.std.proofs.Common.{arith}
 use Rattle.fx_model.specs.declared.ExprId.{ExprId}
 use Rattle.fx_model.specs.declared.Node.{Node}
 use Rattle.fx_model.specs.declared.Node.TheVariants.{Sub}
-use Rattle.settler.specs.rule_universe.pair_closure.Closure.{Pair, difference_of}
+use Rattle.pair_closure.specs.Closure.{Pair, difference_of}
 
 pub front_get : {X : Type 0} (xs ys : List X) (k : ℕ) → k < length xs
     → slice_get (xs ++ ys) k ≡ slice_get xs k

@@ -6,15 +6,16 @@ use Rattle.std.proofs.Common.{sym, subst, arith}
 use Rattle.std.proofs.lemmas.List.{length-append}
 use Rattle.std.proofs.lemmas.Nat.{mul-le}
 use Rattle.facts.specs.CommonParts.{all_last}
-use Rattle.script_shape.specs.Tree.{Formula, single, and, or, implies, Script, formula, define}
+use Rattle.script_shape.specs.Propositions.{Formula, single, and, or, implies}
+use Rattle.script_shape.specs.Tree.{Script, formula, define}
 use Rattle.script_cases.specs.Cases.{with_first, cases, case_count, all_items}
 use Rattle.script_cases.specs.Counted.{cases_are_counted}
 use Rattle.script_cases.specs.Parts.{part_of}
-use Rattle.script_checker.specs.script_nodes.Known.{Known}
-use Rattle.script_checker.specs.script_nodes.Definitions.{definition_value}
-use Rattle.script_checker.specs.script_claims.declared.claim.Claim.{Claim}
-use Rattle.script_checker.specs.script_claims.Claims.{formula_claims}
-use Rattle.script_checker.specs.script_grammar.Meaning.{meaning_from}
+use Rattle.script_nodes.specs.Known.{Known}
+use Rattle.script_nodes.specs.Definitions.{definition_value}
+use Rattle.script_claims.specs.declared.claim.Claim.{Claim}
+use Rattle.script_claims.specs.Claims.{formula_claims}
+use Rattle.script_grammar.specs.Meaning.{meaning_from}
 
 -- ---- how many items a case has
 abbrev AreShort : {X : Type 0} → ℕ → List (List X) → Type 0

@@ -9,20 +9,20 @@ use Rattle.fx_model.specs.declared.ExprId.{ExprId}
 use Rattle.fx_model.specs.declared.Node.{Node}
 use Rattle.fx_model.specs.declared.Node.TheVariants.{Var, Lit, Neg, Add, Sub, Mul, Div, Abs, Round}
 use Rattle.fx_model.specs.Expression.{ChildrenBelow}
-use Rattle.settler.specs.rule_universe.expr_dag.Nodes.{IsAbsent}
+use Rattle.expr_dag.specs.Nodes.{IsAbsent}
+use Rattle.pair_closure.specs.Closure.{difference_of, IsFollowed}
 use Rattle.facts.specs.declared.fact.Fact.{Fact}
-use Rattle.script_checker.specs.script_claims.declared.claim.Claim.{Claim}
-use Rattle.script_checker.specs.script_claims.Facts.{facts_of}
-use Rattle.script_checker.specs.script_grammar.Spells.{View}
-use Rattle.script_checker.specs.script_grammar.Cases.{cases_of}
-use Rattle.settler.specs.script_truths.Truths.{HasUniverse}
-use Rattle.script_checker.specs.rewrite_hints.Marks.{rows_are_one}
-use Rattle.settler.specs.rule_universe.pair_closure.Closure.{difference_of, IsFollowed}
-use Rattle.settler.specs.rule_universe.Worlds.{World}
-use Rattle.tree_certificates.specs.cert_bytes.Certificates.{HasShortParts}
-use Rattle.tree_certificates.specs.cert_checker.declared.subject.Subject.{Subject}
-use Rattle.tree_certificates.specs.cert_checker.Steps.{case_facts}
-use Rattle.tree_certificates.specs.cert_checker.Faults.{IsVariableBelow, IsFurther, JudgesNode}
+use Rattle.script_claims.specs.declared.claim.Claim.{Claim}
+use Rattle.script_claims.specs.Facts.{facts_of}
+use Rattle.script_grammar.specs.Spells.{View}
+use Rattle.script_grammar.specs.Cases.{cases_of}
+use Rattle.rule_universe.specs.Worlds.{World}
+use Rattle.rewrite_hints.specs.Marks.{rows_are_one}
+use Rattle.script_truths.specs.Truths.{HasUniverse}
+use Rattle.cert_bytes.specs.Certificates.{HasShortParts}
+use Rattle.cert_checker.specs.declared.subject.Subject.{Subject}
+use Rattle.cert_checker.specs.Steps.{case_facts}
+use Rattle.cert_checker.specs.Faults.{IsVariableBelow, IsFurther, JudgesNode}
 use Rattle.tree_certificates.specs.Trees.{AreTaken}
 use Rattle.answer_certificates.specs.Scripts.{HasRoom}
 use Rattle.answer_certificates.specs.Laws.{SubjectsAreOfUniverses}

@@ -5,27 +5,26 @@ use Rattle.fx_model.specs.declared.Rounding.{Rounding}
 use Rattle.fx_model.specs.declared.ExprId.{ExprId}
 use Rattle.fx_model.specs.declared.Node.{Node}
 use Rattle.fx_model.specs.declared.Node.TheVariants.{Lit, Neg, Add, Sub, Mul, Div, Abs, Round}
-use Rattle.script_shape.specs.Tree.{Expr, term, sum, difference, Term, factor, product, quotient}
-use Rattle.script_shape.specs.Tree.{Factor, negation, atom, Atom, number, variable, parenthesized}
-use Rattle.script_shape.specs.Tree.{absolute, called, rounded, fused, Prop, lies_in, relative_in}
-use Rattle.script_shape.specs.Tree.{at_most, at_least, multiple, Stated, affirmed, denied, Formula}
-use Rattle.script_shape.specs.Tree.{single, and, or, implies, Need, nonzero, below, not_above}
-use Rattle.script_shape.specs.Tree.{above, not_below, NeedList, last_need, more_needs, Needs}
-use Rattle.script_shape.specs.Tree.{always, provided, Names, last_name, more_names, Halving}
-use Rattle.script_shape.specs.Tree.{halved_by, with_goal, Hint, rewrite, like, split, halving}
-use Rattle.script_shape.specs.Tree.{Hints, no_hint, hint}
-use Rattle.script_checker.specs.script_nodes.Literals.{literal_of}
-use Rattle.script_checker.specs.script_nodes.Operators.{rounding_of}
-use Rattle.script_checker.specs.script_nodes.Known.{Name, Known, PlacedNode, put, named}
-use Rattle.script_checker.specs.script_nodes.Known.{operator_named}
-use Rattle.script_checker.specs.script_nodes.Values.{then_rounded, fused_sum, expr_value}
-use Rattle.script_checker.specs.script_nodes.Values.{term_value, factor_value, atom_value}
-use Rattle.script_checker.specs.script_nodes.Definitions.{name_text}
-use Rattle.script_checker.specs.script_nodes.Sound.{IsMade}
-use Rattle.script_checker.specs.script_claims.Claims.{prop_claim, stated_claim, formula_claims}
-use Rattle.script_checker.specs.script_hints.Hints.{NeedsSoFar, with_need, with_need_list}
-use Rattle.script_checker.specs.script_hints.Hints.{needs_value, HintsSoFar, with_halved}
-use Rattle.script_checker.specs.script_hints.Hints.{with_names, with_halving, with_hint, with_hints}
+use Rattle.script_shape.specs.Expressions.{Expr, term, sum, difference, Term, factor, product}
+use Rattle.script_shape.specs.Expressions.{quotient, Factor, negation, atom, Atom, number, variable}
+use Rattle.script_shape.specs.Expressions.{parenthesized, absolute, called, rounded, fused}
+use Rattle.script_shape.specs.Propositions.{Prop, lies_in, relative_in, at_most, at_least, multiple}
+use Rattle.script_shape.specs.Propositions.{Stated, affirmed, denied, Formula, single, and, or}
+use Rattle.script_shape.specs.Propositions.{implies}
+use Rattle.script_shape.specs.Hints.{Need, nonzero, below, not_above, above, not_below, NeedList}
+use Rattle.script_shape.specs.Hints.{last_need, more_needs, Needs, always, provided, Names}
+use Rattle.script_shape.specs.Hints.{last_name, more_names, Halving, halved_by, with_goal, Hint}
+use Rattle.script_shape.specs.Hints.{rewrite, like, split, halving, Hints, no_hint, hint}
+use Rattle.script_nodes.specs.Literals.{literal_of}
+use Rattle.script_nodes.specs.Operators.{rounding_of}
+use Rattle.script_nodes.specs.Known.{Name, Known, PlacedNode, put, named, operator_named}
+use Rattle.script_nodes.specs.Values.{then_rounded, fused_sum, expr_value, term_value, factor_value}
+use Rattle.script_nodes.specs.Values.{atom_value}
+use Rattle.script_nodes.specs.Definitions.{name_text}
+use Rattle.script_nodes.specs.Sound.{IsMade}
+use Rattle.script_claims.specs.Claims.{prop_claim, stated_claim, formula_claims}
+use Rattle.script_hints.specs.Hints.{NeedsSoFar, with_need, with_need_list, needs_value, HintsSoFar}
+use Rattle.script_hints.specs.Hints.{with_halved, with_names, with_halving, with_hint, with_hints}
 
 module _ (P : Known → Type 0) (puts : (k : Known) (n : Node) → IsMade n → P k
     → P (put k n).0) (names : (k : Known) (text : Name) → P k → P (named k text).0) where

@@ -9,26 +9,26 @@ use Rattle.dyadic.specs.declared.number.End.{End}
 use Rattle.dyadic.specs.declared.number.End.TheVariants as end
 use Rattle.interval.specs.declared.interval.Interval.{Interval}
 use Rattle.interval.specs.Meets.{interval_from, interval_from_self}
+use Rattle.pair_closure.specs.Reached.{Has, has_contains}
 use Rattle.facts.specs.declared.fact.Fact.{Fact}
 use Rattle.facts.specs.declared.fact.Fact.TheVariants as fact
 use Rattle.facts.specs.Order.{is_same}
 use Rattle.facts.specs.CommonParts.{expr_same, same_expr, all_as}
-use Rattle.tree_certificates.specs.derivation.Derivations.{Setting, given}
-use Rattle.tree_certificates.specs.derivation.Known.{Piece, Known}
-use Rattle.script_checker.specs.script_claims.declared.claim.Claim.{Claim}
-use Rattle.script_checker.specs.script_claims.Facts.{hypothesis_fact, with_fact, facts_of}
-use Rattle.settler.specs.rule_universe.pair_closure.Reached.{Has, has_contains}
-use Rattle.settler.specs.box_tree.declared.range.SplitRange.{SplitRange}
-use Rattle.settler.specs.box_tree.Ranges.{range_in, put_range}
-use Rattle.settler.specs.box_tree.Points.{piece_of}
-use Rattle.settler.specs.box_tree.Regions.{PlanParts, Region, root, piece, region_below, region_at}
-use Rattle.settler.specs.box_tree.Regions.{narrowed, with_piece}
-use Rattle.settler.specs.box_tree.Plans.{or_whole, interval_of, last_piece, with_last, pieces_below}
-use Rattle.settler.specs.box_tree.Plans.{pieces_at, piece_at}
-use Rattle.settler.specs.box_tree.Root.{finite_range, range_by, or_later, split_range, with_range}
-use Rattle.settler.specs.box_tree.Root.{split_ranges}
-use Rattle.tree_certificates.specs.cert_checker.Faults.{IsVariable}
-use Rattle.settler.specs.box_tree.InRanges.{at_bool, below_append, range_var, finite_out}
+use Rattle.script_claims.specs.declared.claim.Claim.{Claim}
+use Rattle.script_claims.specs.Facts.{hypothesis_fact, with_fact, facts_of}
+use Rattle.derivation.specs.Derivations.{Setting, given}
+use Rattle.derivation.specs.Known.{Piece, Known}
+use Rattle.box_tree.specs.declared.range.SplitRange.{SplitRange}
+use Rattle.box_tree.specs.Ranges.{range_in, put_range}
+use Rattle.box_tree.specs.Points.{piece_of}
+use Rattle.box_tree.specs.Regions.{PlanParts, Region, root, piece, region_below, region_at}
+use Rattle.box_tree.specs.Regions.{narrowed, with_piece}
+use Rattle.box_tree.specs.Plans.{or_whole, interval_of, last_piece, with_last, pieces_below}
+use Rattle.box_tree.specs.Plans.{pieces_at, piece_at}
+use Rattle.box_tree.specs.Root.{finite_range, range_by, or_later, split_range, with_range}
+use Rattle.box_tree.specs.Root.{split_ranges}
+use Rattle.box_tree.specs.InRanges.{at_bool, below_append, range_var, finite_out}
+use Rattle.cert_checker.specs.Faults.{IsVariable}
 
 -- ---- boxes along paths
 pub region_of_piece : (plan : PlanParts) (path : List ℕ) (i : ℕ)

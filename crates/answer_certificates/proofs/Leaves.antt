@@ -6,17 +6,17 @@ use Rattle.facts.specs.declared.fact.Slot.{Slot}
 use Rattle.facts.specs.declared.fact.Fact.TheVariants as fact
 use Rattle.facts.specs.declared.fact.Slot.TheVariants as slot
 use Rattle.facts.specs.Meets.{IsStronger-antisymm}
+use Rattle.facts.specs.CommonParts.{at_option, void_is}
 use Rattle.goals.specs.declared.goal.Goal.{Goal}
-use Rattle.tree_certificates.specs.derivation.Derivations.{Setting, At}
-use Rattle.tree_certificates.specs.derivation.Known.{Piece, Known, IsTableAt}
-use Rattle.tree_certificates.specs.derivation.Parts.{none_some}
-use Rattle.tree_certificates.specs.derivation.Exists.{table_at}
-use Rattle.settler.specs.bisect.declared.settler.State.{State}
-use Rattle.settler.specs.bisect.declared.settler.State.TheVariants as state
-use Rattle.settler.specs.bisect.Boxes.{open_goal}
+use Rattle.derivation.specs.Derivations.{Setting, At}
+use Rattle.derivation.specs.Known.{Piece, Known, IsTableAt}
+use Rattle.derivation.specs.Parts.{none_some}
+use Rattle.derivation.specs.Exists.{table_at}
+use Rattle.bisect.specs.declared.settler.State.{State}
+use Rattle.bisect.specs.declared.settler.State.TheVariants as state
+use Rattle.bisect.specs.Boxes.{open_goal}
 use Rattle.settler.specs.Standing.{IsBestKnown, AreSettledBy, StandsAs}
 use Rattle.tree_certificates.specs.Trees.{AllSettled, IsSettledLeaf}
-use Rattle.facts.specs.CommonParts.{at_option, void_is}
 
 -- the table has these facts on the slots of the goals
 abbrev pub AreAt : At → List Goal → List Fact → Type 0

@@ -10,20 +10,19 @@ use Rattle.std.proofs.lemmas.List.Quantifiers.{position-Some}
 use Rattle.fx_model.specs.declared.ExprId.{ExprId}
 use Rattle.fx_model.specs.declared.Node.{Node}
 use Rattle.fx_model.specs.declared.Node.TheVariants.{Var}
-use Rattle.settler.specs.rule_universe.expr_dag.Nodes.{IsAt, same_node, numbered, place_of, placed}
-use Rattle.settler.specs.rule_universe.expr_dag.Same.{same}
+use Rattle.expr_dag.specs.Nodes.{IsAt, same_node, numbered, place_of, placed}
+use Rattle.expr_dag.specs.Same.{same}
+use Rattle.pair_closure.specs.Members.{some-inj, none_at, before_last, last_at, ends_with}
 use Rattle.script_shape.specs.Tree.{Definition, names_operator, names_value, Script, formula}
 use Rattle.script_shape.specs.Tree.{define}
-use Rattle.script_checker.specs.script_nodes.Known.{Name, Known, entry_of, put, variable_put}
-use Rattle.script_checker.specs.script_nodes.Known.{name_put, named, nothing_known}
-use Rattle.script_checker.specs.script_nodes.Definitions.{rounding_by, definition_value}
-use Rattle.script_checker.specs.script_nodes.Sound.{IsMade}
-use Rattle.script_checker.specs.script_claims.Claims.{formula_claims}
-use Rattle.script_checker.specs.script_hints.Hints.{no_hints}
-use Rattle.script_checker.specs.script_grammar.Meaning.{meaning_from}
-use Rattle.tree_certificates.specs.cert_checker.Faults.{IsVariable}
-use Rattle.settler.specs.rule_universe.pair_closure.Members.{some-inj, none_at, before_last}
-use Rattle.settler.specs.rule_universe.pair_closure.Members.{last_at, ends_with}
+use Rattle.script_nodes.specs.Known.{Name, Known, entry_of, put, variable_put, name_put, named}
+use Rattle.script_nodes.specs.Known.{nothing_known}
+use Rattle.script_nodes.specs.Definitions.{rounding_by, definition_value}
+use Rattle.script_nodes.specs.Sound.{IsMade}
+use Rattle.script_claims.specs.Claims.{formula_claims}
+use Rattle.script_hints.specs.Hints.{no_hints}
+use Rattle.script_grammar.specs.Meaning.{meaning_from}
+use Rattle.cert_checker.specs.Faults.{IsVariable}
 use Rattle.answer_certificates.proofs.Keeping.{expr_so, formula_so, hints_so}
 
 -- ---- one node

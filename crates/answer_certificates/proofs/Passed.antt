@@ -4,29 +4,28 @@ use Rattle.std.specs.Prelude.{false, ◌||◌, take, refl}
 use Rattle.std.proofs.Common.{ap, ◌∙◌, subst}
 use Rattle.std.proofs.Math.Seq.{take-length}
 use Rattle.std.proofs.lemmas.Bool.{ltb-false, or_parts}
-use Rattle.script_cases.specs.Parts.{begun_cases}
 use Rattle.script_words.specs.Lex.{LexesOnce}
 use Rattle.script_words.specs.Words.{Word}
 use Rattle.script_words.specs.Named.{words_of}
 use Rattle.script_shape.specs.Tree.{script_words, IsScript}
 use Rattle.script_shape.specs.Roles.{Leaf, script_leaves, HasRoles, LeavesAreOfTrees}
 use Rattle.script_shape.specs.ShapeLaw.{IsShapeOf}
-use Rattle.script_checker.specs.script_judge.declared.refusal.Refusal.{Refusal}
-use Rattle.script_checker.specs.script_judge.declared.counts.Counts.{Counts}
-use Rattle.script_checker.specs.script_judge.declared.fault.Fault.{Fault}
-use Rattle.script_checker.specs.script_judge.Names.{is_some_among, is_used, defines, split_name}
-use Rattle.script_checker.specs.script_judge.Bounds.{is_bad_bound}
-use Rattle.script_checker.specs.script_judge.Splits.{is_rangeless, is_bad_point}
-use Rattle.script_checker.specs.script_judge.Numbers.{Notes, has_no_pieces, is_past_lsb}
-use Rattle.script_checker.specs.script_judge.Numbers.{is_past_pieces}
-use Rattle.script_checker.specs.script_judge.Judge.{Seen, seen_after, has_arrow, is_on_wrong_side}
-use Rattle.script_checker.specs.script_judge.Judge.{is_past_cases, form_kind, form_refusal}
-use Rattle.script_checker.specs.script_judge.Judge.{limit_kind, limit_refusal, refusal_at, Judged}
-use Rattle.script_checker.specs.script_judge.Judge.{refused, passed, nothing_seen, fails, both_none}
-use Rattle.script_checker.specs.script_judge.Reading.{Reading, IsReadingOf, fault}
-use Rattle.script_checker.specs.script_judge.First.{IsFirstRefusal, unread, read, refusal_of}
-use Rattle.script_checker.specs.script_judge.First.{second_none, none_found}
-use Rattle.script_checker.specs.script_grammar.Spells.{View, Spells}
+use Rattle.script_cases.specs.Parts.{begun_cases}
+use Rattle.script_judge.specs.declared.refusal.Refusal.{Refusal}
+use Rattle.script_judge.specs.declared.counts.Counts.{Counts}
+use Rattle.script_judge.specs.declared.fault.Fault.{Fault}
+use Rattle.script_judge.specs.Names.{is_some_among, is_used, defines, split_name}
+use Rattle.script_judge.specs.Bounds.{is_bad_bound}
+use Rattle.script_judge.specs.Splits.{is_rangeless, is_bad_point}
+use Rattle.script_judge.specs.Numbers.{Notes, has_no_pieces, is_past_lsb, is_past_pieces}
+use Rattle.script_judge.specs.Judge.{Seen, seen_after, is_on_wrong_side, is_past_cases, form_kind}
+use Rattle.script_judge.specs.Judge.{form_refusal, limit_kind, limit_refusal, refusal_at, Judged}
+use Rattle.script_judge.specs.Judge.{refused, passed, nothing_seen, fails, both_none}
+use Rattle.script_judge.specs.Sides.{has_arrow}
+use Rattle.script_judge.specs.Reading.{Reading, IsReadingOf, fault}
+use Rattle.script_judge.specs.First.{IsFirstRefusal, unread, read, refusal_of, second_none}
+use Rattle.script_judge.specs.First.{none_found}
+use Rattle.script_grammar.specs.Spells.{View, Spells}
 
 -- ---- one word
 

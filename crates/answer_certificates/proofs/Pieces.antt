@@ -2,11 +2,11 @@
 use Rattle.std.specs.Prelude.{◌≡◌, ℕ, Option, Some}
 use Rattle.std.proofs.Common.{sym, ap, subst}
 use Rattle.fx_model.specs.declared.ExprId.{ExprId}
-use Rattle.tree_certificates.specs.derivation.Known.{Piece}
-use Rattle.settler.specs.box_tree.declared.next.Next.{Next}
-use Rattle.settler.specs.box_tree.declared.next.Next.TheVariants as next
-use Rattle.settler.specs.box_tree.Regions.{PlanParts, Region, next_of, piece_by, region_at}
-use Rattle.settler.specs.box_tree.Plans.{cut_by, cut_at, last_piece}
+use Rattle.derivation.specs.Known.{Piece}
+use Rattle.box_tree.specs.declared.next.Next.{Next}
+use Rattle.box_tree.specs.declared.next.Next.TheVariants as next
+use Rattle.box_tree.specs.Regions.{PlanParts, Region, next_of, piece_by, region_at}
+use Rattle.box_tree.specs.Plans.{cut_by, cut_at, last_piece}
 use Rattle.answer_certificates.specs.Boxes.{range_of_piece, variable_of}
 use Rattle.answer_certificates.specs.Laws.{PiecesAreOfCuts}
 use Rattle.answer_certificates.proofs.Known.{piece_there}

@@ -5,23 +5,22 @@ use Rattle.std.proofs.Common.{arith}
 use Rattle.fx_model.specs.declared.ExprId.{ExprId}
 use Rattle.fx_model.specs.declared.Node.{Node}
 use Rattle.fx_model.specs.declared.Node.TheVariants as node
-use Rattle.settler.specs.rule_universe.expr_dag.Nodes.{place_of}
+use Rattle.expr_dag.specs.Nodes.{place_of}
+use Rattle.pair_closure.specs.Closure.{Pair, is_same}
+use Rattle.pair_closure.specs.Among.{is_among}
+use Rattle.pair_closure.specs.Rows.{seconds}
 use Rattle.facts.specs.declared.fact.Slot.TheVariants.{Bnd, Abs, Rel, Fix, Nzr}
 use Rattle.facts.specs.declared.instance.Instance.{Instance}
-use Rattle.settler.specs.rule_universe.pair_closure.Closure.{Pair, is_same}
-use Rattle.settler.specs.rule_universe.pair_closure.Among.{is_among}
-use Rattle.settler.specs.rule_universe.pair_closure.Rows.{seconds}
-use Rattle.settler.specs.rule_instances.Slots.{rule}
-use Rattle.settler.specs.rule_instances.Lists.{given, at_any, at_operation}
-use Rattle.settler.specs.rule_instances.Lists as lists
-use Rattle.settler.specs.rule_instances.Found.{found, both_found, at_error, error_rules, is_sided}
-use Rattle.settler.specs.rule_instances.Found.{pair_rules, at_terms, twin_rules, apart_rules}
-use Rattle.settler.specs.rule_instances.Found.{difference_rules, operation_rules, at_pair}
-use Rattle.settler.specs.rule_instances.Found.{past_left, past_right}
-use Rattle.settler.specs.rule_instances.InOrder.{each_at, id_at, apart, of_node, past_of, node_of}
-use Rattle.settler.specs.rule_instances.InOrder.{one_left, one_right, of_sides, of_difference}
-use Rattle.settler.specs.rule_instances.InOrder.{of_pair}
-use Rattle.settler.specs.rule_universe.Sizes.{beyond_four}
+use Rattle.rule_instances.specs.Slots.{rule}
+use Rattle.rule_instances.specs.Lists.{given, at_any, at_operation}
+use Rattle.rule_instances.specs.Lists as lists
+use Rattle.rule_instances.specs.Found.{found, both_found, at_error, error_rules, is_sided}
+use Rattle.rule_instances.specs.Found.{pair_rules, at_terms, twin_rules, apart_rules}
+use Rattle.rule_instances.specs.Found.{difference_rules, operation_rules, at_pair, past_left}
+use Rattle.rule_instances.specs.Found.{past_right}
+use Rattle.rule_instances.specs.InOrder.{each_at, id_at, apart, of_node, past_of, node_of, one_left}
+use Rattle.rule_instances.specs.InOrder.{one_right, of_sides, of_difference, of_pair}
+use Rattle.rule_universe.specs.Sizes.{beyond_four}
 
 -- none of them has more than four premises
 abbrev pub ArePlain : List Instance → Type 0

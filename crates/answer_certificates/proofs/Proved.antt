@@ -15,35 +15,35 @@ use Rattle.facts.specs.declared.fact.Fact.TheVariants as fact
 use Rattle.facts.specs.declared.fact.Slot.TheVariants as slot
 use Rattle.facts.specs.Order.{IsStronger}
 use Rattle.goals.specs.declared.line.Line.{Line}
-use Rattle.tree_certificates.specs.derivation.Derivations.{Setting, At}
-use Rattle.tree_certificates.specs.derivation.Known.{Piece, IsTableAt}
-use Rattle.tree_certificates.specs.derivation.Exists.{table_at}
-use Rattle.script_checker.specs.script_hints.Few.{HaveFewPieces}
-use Rattle.settler.specs.rule_universe.Worlds.{World}
-use Rattle.settler.specs.saturate.Universes.{setting_of}
-use Rattle.settler.specs.box_tree.declared.cut.Cut.{Cut}
-use Rattle.settler.specs.box_tree.declared.cut.Cut.TheVariants.{Forced, Half, Bottom}
-use Rattle.settler.specs.box_tree.declared.next.Next.{Next}
-use Rattle.settler.specs.box_tree.declared.next.Next.TheVariants as next_cut
-use Rattle.settler.specs.box_tree.declared.range.SplitRange.{SplitRange}
-use Rattle.settler.specs.box_tree.Ranges.{range_in}
-use Rattle.settler.specs.box_tree.Points.{piece_of}
-use Rattle.settler.specs.box_tree.Pieces.{piece_count}
-use Rattle.settler.specs.box_tree.Regions.{PlanParts, Region, narrowed, next_of, piece_by, piece}
-use Rattle.settler.specs.box_tree.Regions.{region_at}
-use Rattle.settler.specs.box_tree.Plans.{cut_by, cut_at, interval_of, last_piece, with_last}
-use Rattle.settler.specs.box_tree.Plans.{pieces_at, piece_at}
-use Rattle.settler.specs.bisect.declared.settler.State.{State}
-use Rattle.settler.specs.bisect.declared.settler.State.TheVariants as state
-use Rattle.settler.specs.bisect.Trees.{tree_of, children, child_count}
-use Rattle.settler.specs.bisect.Trees as bisect
-use Rattle.settler.specs.bisect.Boxes.{open_goal, or_later, first_open, leaf_at, with_leaf}
-use Rattle.settler.specs.bisect.Boxes.{leaves_of, first_none, later_none}
-use Rattle.settler.specs.bisect.Walks.{boxes_from}
-use Rattle.settler.specs.bisect.Walks as walks
+use Rattle.script_hints.specs.Few.{HaveFewPieces}
+use Rattle.derivation.specs.Derivations.{Setting, At}
+use Rattle.derivation.specs.Known.{Piece, IsTableAt}
+use Rattle.derivation.specs.Exists.{table_at}
+use Rattle.rule_universe.specs.Worlds.{World}
+use Rattle.saturate.specs.Universes.{setting_of}
+use Rattle.box_tree.specs.declared.cut.Cut.{Cut}
+use Rattle.box_tree.specs.declared.cut.Cut.TheVariants.{Forced, Half, Bottom}
+use Rattle.box_tree.specs.declared.next.Next.{Next}
+use Rattle.box_tree.specs.declared.next.Next.TheVariants as next_cut
+use Rattle.box_tree.specs.declared.range.SplitRange.{SplitRange}
+use Rattle.box_tree.specs.Ranges.{range_in}
+use Rattle.box_tree.specs.Points.{piece_of}
+use Rattle.box_tree.specs.Pieces.{piece_count}
+use Rattle.box_tree.specs.Regions.{PlanParts, Region, narrowed, next_of, piece_by, piece, region_at}
+use Rattle.box_tree.specs.Plans.{cut_by, cut_at, interval_of, last_piece, with_last, pieces_at}
+use Rattle.box_tree.specs.Plans.{piece_at}
+use Rattle.box_tree.specs.InRanges.{range_var}
+use Rattle.bisect.specs.declared.settler.State.{State}
+use Rattle.bisect.specs.declared.settler.State.TheVariants as state
+use Rattle.bisect.specs.Trees.{tree_of, children, child_count}
+use Rattle.bisect.specs.Trees as bisect
+use Rattle.bisect.specs.Boxes.{open_goal, or_later, first_open, leaf_at, with_leaf, leaves_of}
+use Rattle.bisect.specs.Boxes.{first_none, later_none}
+use Rattle.bisect.specs.Walks.{boxes_from}
+use Rattle.bisect.specs.Walks as walks
 use Rattle.settler.specs.Standing.{StandsAs, AreStates}
-use Rattle.tree_certificates.specs.cert_checker.Contexts.{piece_fact}
-use Rattle.tree_certificates.specs.cert_checker.Faults.{IsVariable}
+use Rattle.cert_checker.specs.Contexts.{piece_fact}
+use Rattle.cert_checker.specs.Faults.{IsVariable}
 use Rattle.tree_certificates.specs.Traces.{IsCutTo}
 use Rattle.tree_certificates.specs.Trees.{Tree, Trees, leaf, cut, cut_of, IsProved, AreProved}
 use Rattle.tree_certificates.specs.Trees.{lines_of_tree, lines_of_trees, steps_in, steps_in_each}
@@ -56,7 +56,6 @@ use Rattle.answer_certificates.proofs.CutTo.{piece_ordered, checker_piece, check
 use Rattle.answer_certificates.proofs.Leaves.{no_void, settled_leaf}
 use Rattle.answer_certificates.proofs.Shown.{rows_both, rows_none, rows_length, leaf_rows}
 use Rattle.answer_certificates.proofs.Shown.{leaves_both}
-use Rattle.settler.specs.box_tree.InRanges.{range_var}
 
 -- ---- what is cut along what
 -- The box is cut along x at these points: its pieces have these ranges.

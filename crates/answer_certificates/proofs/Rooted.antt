@@ -10,28 +10,28 @@ use Rattle.std.proofs.lemmas.Nat.{mul-le}
 use Rattle.goals.specs.declared.goal.Goal.{Goal}
 use Rattle.goals.specs.declared.line.Line.{Line}
 use Rattle.goals.specs.declared.line.Line.TheVariants as line
-use Rattle.script_checker.specs.script_claims.declared.claim.Claim.{Claim}
-use Rattle.script_checker.specs.script_claims.Facts.{goal_of, facts_of}
-use Rattle.script_checker.specs.script_grammar.Spells.{View}
-use Rattle.script_checker.specs.script_grammar.Cases.{cases_of}
-use Rattle.settler.specs.rule_universe.Worlds.{World}
-use Rattle.settler.specs.universe.Universes.{UniversesAreOne}
-use Rattle.settler.specs.saturate.Universes.{setting_of}
-use Rattle.settler.specs.box_tree.Regions.{PlanParts}
-use Rattle.settler.specs.bisect.declared.settler.State.{State}
-use Rattle.settler.specs.bisect.declared.outcome.Leaf.{Leaf}
-use Rattle.settler.specs.bisect.Trees as bisect
-use Rattle.settler.specs.bisect.Boxes.{AreBoxes, first_open, leaves_of}
-use Rattle.settler.specs.case_trees.declared.outcome.OpenLeaf.{OpenLeaf}
-use Rattle.settler.specs.case_trees.Listed.{Listed, AreListed, box_count, or_later, first_open_from}
-use Rattle.settler.specs.case_trees.Listed.{all_leaves}
+use Rattle.script_claims.specs.declared.claim.Claim.{Claim}
+use Rattle.script_claims.specs.Facts.{goal_of, facts_of}
+use Rattle.script_grammar.specs.Spells.{View}
+use Rattle.script_grammar.specs.Cases.{cases_of}
+use Rattle.rule_universe.specs.Worlds.{World}
+use Rattle.saturate.specs.Universes.{setting_of}
+use Rattle.universe.specs.Universes.{UniversesAreOne}
+use Rattle.box_tree.specs.Regions.{PlanParts}
+use Rattle.bisect.specs.declared.settler.State.{State}
+use Rattle.bisect.specs.declared.outcome.Leaf.{Leaf}
+use Rattle.bisect.specs.Trees as bisect
+use Rattle.bisect.specs.Boxes.{AreBoxes, first_open, leaves_of}
+use Rattle.case_trees.specs.declared.outcome.OpenLeaf.{OpenLeaf}
+use Rattle.case_trees.specs.Listed.{Listed, AreListed, box_count, or_later, first_open_from}
+use Rattle.case_trees.specs.Listed.{all_leaves}
 use Rattle.settler.specs.Standing.{AreStates}
 use Rattle.settler.specs.Answers.{Options, plan_of, tree_by, IsTreeOf, AreTrees}
-use Rattle.tree_certificates.specs.cert_bytes.declared.item.Item.{Item}
-use Rattle.tree_certificates.specs.cert_bytes.declared.style.Style.TheVariants.{First}
-use Rattle.tree_certificates.specs.cert_bytes.Spelling.{spelled_from}
-use Rattle.tree_certificates.specs.cert_checker.declared.subject.Subject.{Subject}
-use Rattle.tree_certificates.specs.cert_checker.Accepted.{Accepts}
+use Rattle.cert_bytes.specs.declared.item.Item.{Item}
+use Rattle.cert_bytes.specs.declared.style.Style.TheVariants.{First}
+use Rattle.cert_bytes.specs.Spelling.{spelled_from}
+use Rattle.cert_checker.specs.declared.subject.Subject.{Subject}
+use Rattle.cert_checker.specs.Accepted.{Accepts}
 use Rattle.script_checker.specs.Subjects.{IsSubjectOf}
 use Rattle.tree_certificates.specs.Trees.{Tree, lines_of_tree, steps_in}
 use Rattle.tree_certificates.specs.Roots.{Root, IsRoot, AreRoots, steps_in_roots, lines_of_roots}

@@ -7,19 +7,19 @@ use Rattle.std.proofs.lemmas.Option.{slice_get_within, slice_get_cases}
 use Rattle.fx_model.specs.declared.ExprId.{ExprId}
 use Rattle.fx_model.specs.declared.Node.{Node}
 use Rattle.fx_model.specs.declared.Node.TheVariants.{Div}
-use Rattle.settler.specs.rule_universe.expr_dag.Nodes.{IsAt, IsLawful}
+use Rattle.expr_dag.specs.Nodes.{IsAt, IsLawful}
 use Rattle.facts.specs.declared.fact.Slot.TheVariants as slot
 use Rattle.facts.specs.declared.hint.HintRow.{HintRow}
 use Rattle.facts.specs.declared.instance.Instance.{Instance}
-use Rattle.settler.specs.rule_instances.Slots.{need_slot, conditions}
-use Rattle.settler.specs.rule_instances.InOrder.{each_at, of_node, of_difference, of_pair, of_hint}
-use Rattle.script_checker.specs.script_hints.declared.hint.Hint.{Hint}
-use Rattle.script_checker.specs.script_hints.Needs.{need_of}
-use Rattle.script_checker.specs.rewrite_hints.Divisors.{IsDivisor, AreDivisors}
-use Rattle.script_checker.specs.rewrite_hints.Rows.{IsRowOf}
-use Rattle.script_checker.specs.rewrite_hints.Marks.{AreRows}
-use Rattle.settler.specs.rule_universe.Sizes.{beyond_four}
-use Rattle.script_checker.specs.script_grammar.Few.{constraints_in}
+use Rattle.script_hints.specs.declared.hint.Hint.{Hint}
+use Rattle.script_hints.specs.Needs.{need_of}
+use Rattle.script_grammar.specs.Few.{constraints_in}
+use Rattle.rule_instances.specs.Slots.{need_slot, conditions}
+use Rattle.rule_instances.specs.InOrder.{each_at, of_node, of_difference, of_pair, of_hint}
+use Rattle.rule_universe.specs.Sizes.{beyond_four}
+use Rattle.rewrite_hints.specs.Divisors.{IsDivisor, AreDivisors}
+use Rattle.rewrite_hints.specs.Rows.{IsRowOf}
+use Rattle.rewrite_hints.specs.Marks.{AreRows}
 use Rattle.answer_certificates.specs.Premises.{PremisesAreFew}
 use Rattle.answer_certificates.proofs.Plain.{beyond_both, plain_node, plain_difference, plain_pair}
 use Rattle.answer_certificates.proofs.Plain.{plain_each}

@@ -6,25 +6,25 @@ use Rattle.std.proofs.Common.{sym, ◌∙◌, ap, arith}
 use Rattle.facts.specs.declared.fact.Fact.{Fact}
 use Rattle.facts.specs.declared.fact.Fact.TheVariants as fact
 use Rattle.facts.specs.declared.fact.Slot.TheVariants as slot
+use Rattle.facts.specs.CommonParts.{at_option}
 use Rattle.goals.specs.declared.goal.Goal.{Goal}
 use Rattle.goals.specs.declared.line.Line.{Line}
 use Rattle.goals.specs.declared.line.Line.TheVariants as line
-use Rattle.tree_certificates.specs.derivation.Derivations.{Setting, At}
-use Rattle.tree_certificates.specs.derivation.Known.{Piece, IsTableAt}
-use Rattle.tree_certificates.specs.derivation.Parts.{none_some}
-use Rattle.tree_certificates.specs.derivation.Exists.{table_at}
-use Rattle.settler.specs.bisect.declared.settler.State.{State}
-use Rattle.settler.specs.bisect.declared.settler.State.TheVariants as state
-use Rattle.settler.specs.bisect.declared.outcome.Leaf.{Leaf}
-use Rattle.settler.specs.bisect.Trees.{Tree, child_count}
-use Rattle.settler.specs.bisect.Boxes.{open_goal, leaf_at, with_leaf, leaves_of}
-use Rattle.settler.specs.bisect.Gathered.{with_known, with_state, line_with, line_of}
+use Rattle.derivation.specs.Derivations.{Setting, At}
+use Rattle.derivation.specs.Known.{Piece, IsTableAt}
+use Rattle.derivation.specs.Parts.{none_some}
+use Rattle.derivation.specs.Exists.{table_at}
+use Rattle.bisect.specs.declared.settler.State.{State}
+use Rattle.bisect.specs.declared.settler.State.TheVariants as state
+use Rattle.bisect.specs.declared.outcome.Leaf.{Leaf}
+use Rattle.bisect.specs.Trees.{Tree, child_count}
+use Rattle.bisect.specs.Boxes.{open_goal, leaf_at, with_leaf, leaves_of}
+use Rattle.bisect.specs.Gathered.{with_known, with_state, line_with, line_of}
 use Rattle.settler.specs.Standing.{StandsAs}
+use Rattle.cert_checker.specs.After.{with_cited}
 use Rattle.tree_certificates.specs.Trees.{lines_at, leaf_lines}
-use Rattle.tree_certificates.specs.cert_checker.After.{with_cited}
 use Rattle.answer_certificates.specs.Boxes.{rows_from}
 use Rattle.answer_certificates.proofs.Leaves.{AreAt, no_void, facts_at}
-use Rattle.facts.specs.CommonParts.{at_option}
 
 line_both : (k : ℕ) (l : Line) (xs ys : List Leaf)
     → line_with k l (xs ++ ys) ≡ line_with k (line_with k l xs) ys

@@ -3,11 +3,11 @@ use Rattle.std.specs.Prelude.{◌≡◌, ◌≤◌, ◌+◌, List, ◌++◌, len
 use Rattle.std.proofs.Common.{arith, sym, subst}
 use Rattle.fx_model.specs.declared.ExprId.{ExprId}
 use Rattle.fx_model.specs.declared.Node.{Node}
-use Rattle.settler.specs.rule_universe.expr_dag.Nodes.{IsAt, IsLawful}
+use Rattle.expr_dag.specs.Nodes.{IsAt, IsLawful}
 use Rattle.facts.specs.declared.instance.Instance.{Instance}
-use Rattle.settler.specs.rule_instances.InOrder.{instance_list}
-use Rattle.settler.specs.script_truths.Truths.{UniversesExtend}
-use Rattle.settler.specs.rule_universe.Sizes.{beyond_four}
+use Rattle.rule_instances.specs.InOrder.{instance_list}
+use Rattle.rule_universe.specs.Sizes.{beyond_four}
+use Rattle.script_truths.specs.Truths.{UniversesExtend}
 use Rattle.answer_certificates.specs.Premises.{PremisesAreFew}
 use Rattle.answer_certificates.specs.Universes.{UniversesAreSmall}
 

@@ -6,36 +6,32 @@ use Rattle.std.specs.List.{AllByRecursion}
 use Rattle.std.proofs.Common.{sym, ap, subst, inr, arith, length-append}
 use Rattle.std.proofs.lemmas.List.{length-map}
 use Rattle.fx_model.specs.declared.Node.{Node}
+use Rattle.pair_closure.specs.Reached.{Has}
+use Rattle.pair_closure.specs.Reached.IsReached.{begin}
+use Rattle.pair_closure.specs.Closure.{Pair, difference_of}
+use Rattle.pair_closure.specs.Members.{has_left, has_right}
 use Rattle.facts.specs.declared.fact.Fact.{Fact}
 use Rattle.goals.specs.declared.goal.Goal.{Goal}
-use Rattle.script_checker.specs.node_counts.Few.{HasFewHints}
 use Rattle.script_words.specs.Lex.{LexesOnce}
 use Rattle.script_shape.specs.Roles.{LeavesAreOfTrees}
-use Rattle.script_checker.specs.script_nodes.Known.{nothing_known}
-use Rattle.script_checker.specs.script_claims.declared.claim.Claim.{Claim}
-use Rattle.script_checker.specs.script_claims.declared.claim.Claim.TheVariants.{Bounded, Asked}
-use Rattle.script_checker.specs.script_claims.declared.claim.Claim.TheVariants.{Relative}
-use Rattle.script_checker.specs.script_claims.declared.claim.Claim.TheVariants.{RelativeAsked}
-use Rattle.script_checker.specs.script_claims.declared.claim.Claim.TheVariants.{Multiple, Above}
-use Rattle.script_checker.specs.script_claims.declared.claim.Claim.TheVariants.{Below}
-use Rattle.script_checker.specs.script_claims.Facts.{hypothesis_fact, slot_of}
-use Rattle.script_checker.specs.script_claims.Facts.{goal_of, with_fact, facts_of}
-use Rattle.script_checker.specs.script_grammar.Spells.{View, SpelledAreShort}
-use Rattle.script_checker.specs.script_grammar.Names.{ClaimIsOf}
-use Rattle.script_checker.specs.script_grammar.Cases.{cases_of}
-use Rattle.script_checker.specs.script_grammar.Ranges.{SpelledHaveFewCases}
-use Rattle.script_checker.specs.script_grammar.Few.{SpelledHaveFewHints, SpelledHaveFewConstraints}
-use Rattle.script_checker.specs.script_grammar.Few.{constraints_in}
-use Rattle.settler.specs.rule_universe.pair_closure.Reached.{Has}
-use Rattle.settler.specs.rule_universe.pair_closure.Reached.IsReached.{begin}
-use Rattle.settler.specs.rule_universe.pair_closure.Closure.{Pair, difference_of}
-use Rattle.settler.specs.rule_universe.pair_closure.Members.{has_left, has_right}
-use Rattle.settler.specs.script_truths.Truths.{HasUniverse}
-use Rattle.settler.specs.rule_universe.Worlds.{World, IsSlot, HasSlot, IsWhole}
-use Rattle.settler.specs.universe.Starts.{claim_pairs, claims_pairs, hints_pairs}
-use Rattle.settler.specs.universe.Cases.{AreHypotheses, cases_have_hypotheses}
-use Rattle.settler.specs.universe.Universes.{HypothesesHaveSlots, assumed}
-use Rattle.tree_certificates.specs.cert_checker.Faults.{IsVariable}
+use Rattle.script_nodes.specs.Known.{nothing_known}
+use Rattle.script_claims.specs.declared.claim.Claim.{Claim}
+use Rattle.script_claims.specs.declared.claim.Claim.TheVariants.{Bounded, Asked, Relative}
+use Rattle.script_claims.specs.declared.claim.Claim.TheVariants.{RelativeAsked, Multiple, Above}
+use Rattle.script_claims.specs.declared.claim.Claim.TheVariants.{Below}
+use Rattle.script_claims.specs.Facts.{hypothesis_fact, slot_of, goal_of, with_fact, facts_of}
+use Rattle.node_counts.specs.Few.{HasFewHints}
+use Rattle.script_grammar.specs.Spells.{View, SpelledAreShort}
+use Rattle.script_grammar.specs.Names.{ClaimIsOf}
+use Rattle.script_grammar.specs.Cases.{cases_of}
+use Rattle.script_grammar.specs.Ranges.{SpelledHaveFewCases}
+use Rattle.script_grammar.specs.Few.{SpelledHaveFewHints, SpelledHaveFewConstraints, constraints_in}
+use Rattle.rule_universe.specs.Worlds.{World, IsSlot, HasSlot, IsWhole}
+use Rattle.universe.specs.Starts.{claim_pairs, claims_pairs, hints_pairs}
+use Rattle.universe.specs.Cases.{AreHypotheses, cases_have_hypotheses}
+use Rattle.universe.specs.Universes.{HypothesesHaveSlots, assumed}
+use Rattle.script_truths.specs.Truths.{HasUniverse}
+use Rattle.cert_checker.specs.Faults.{IsVariable}
 use Rattle.answer_certificates.specs.Scripts.{in_case, IsCaseOf, IsBuilt, ScriptsHaveRoom}
 use Rattle.answer_certificates.specs.Scripts.{GoalsHaveSlots}
 use Rattle.answer_certificates.proofs.Numbered.{AreNumbered, script_numbered}

@@ -9,41 +9,39 @@ use Rattle.std.proofs.lemmas.Bool.{or_right}
 use Rattle.fx_model.specs.declared.ExprId.{ExprId}
 use Rattle.fx_model.specs.declared.Node.{Node}
 use Rattle.fx_model.specs.declared.Node.TheVariants.{Var}
+use Rattle.facts.specs.CommonParts.{all_as, all_last}
 use Rattle.script_words.specs.declared.class.Symbol.TheVariants as s
 use Rattle.script_words.specs.Words.{Word, name, rounding, sign}
 use Rattle.script_shape.specs.declared.due.Due.{Due}
 use Rattle.script_shape.specs.declared.due.Due.TheVariants as d
-use Rattle.script_shape.specs.Tree.{AnyName, plain, operator, Expr, How, exactly, rounded_by}
-use Rattle.script_shape.specs.Tree.{rounded_apart, rounded_joined, Names, last_name, more_names}
-use Rattle.script_shape.specs.Tree.{Halving, halved_by, with_goal, Hint, rewrite, like, split}
-use Rattle.script_shape.specs.Tree.{halving, Hints, no_hint, hint, names_operator, names_value}
-use Rattle.script_shape.specs.Tree.{Script, formula, define}
+use Rattle.script_shape.specs.Expressions.{AnyName, plain, operator, Expr}
+use Rattle.script_shape.specs.Tree.{How, exactly, rounded_by, rounded_apart, rounded_joined}
+use Rattle.script_shape.specs.Tree.{names_operator, names_value, Script, formula, define}
+use Rattle.script_shape.specs.Hints.{Names, last_name, more_names, Halving, halved_by, with_goal}
+use Rattle.script_shape.specs.Hints.{Hint, rewrite, like, split, halving, Hints, no_hint, hint}
 use Rattle.script_shape.specs.Roles.{Leaf, at, name_leaves, operator_leaves, expr_leaves}
 use Rattle.script_shape.specs.Roles.{cut_leaves, names_leaves, halving_leaves, hint_leaves}
 use Rattle.script_shape.specs.Roles.{hints_leaves, how_leaves, formula_leaves, definition_leaves}
 use Rattle.script_shape.specs.Roles.{script_leaves}
 use Rattle.script_shape.specs.Inner.{EachRole, IsInner, each_of_both, each_as, operator_roles}
 use Rattle.script_shape.specs.Inner.{expr_inner}
-use Rattle.script_checker.specs.script_judge.Names.{is_among, is_some_among, with_some, ended}
-use Rattle.script_checker.specs.script_judge.Names.{pending_after, defines, split_name}
-use Rattle.script_checker.specs.script_judge.Judge.{Seen, seen_after, Judged, nothing_seen}
-use Rattle.script_checker.specs.script_nodes.Known.{Name, Known, entry_of, with_entry, named}
-use Rattle.script_checker.specs.script_nodes.Known.{nothing_known}
-use Rattle.script_checker.specs.script_nodes.Values.{expr_value}
-use Rattle.script_checker.specs.script_nodes.Definitions.{name_text, rounding_by, definition_value}
-use Rattle.script_checker.specs.script_claims.Claims.{formula_claims}
-use Rattle.script_checker.specs.script_hints.Hints.{with_variable, needs_value, HintsSoFar}
-use Rattle.script_checker.specs.script_hints.Hints.{with_halved, with_names, with_halving}
-use Rattle.script_checker.specs.script_hints.Hints.{with_hint, with_hints, no_hints}
-use Rattle.script_checker.specs.script_hints.Hints as hints
-use Rattle.script_checker.specs.script_grammar.Meaning.{meaning_from}
-use Rattle.tree_certificates.specs.cert_checker.Faults.{IsVariable}
+use Rattle.script_cases.specs.Lists.{all_front, all_behind}
+use Rattle.script_judge.specs.Names.{is_among, is_some_among, with_some, ended, pending_after}
+use Rattle.script_judge.specs.Names.{defines, split_name}
+use Rattle.script_judge.specs.Judge.{Seen, seen_after, Judged, nothing_seen}
+use Rattle.script_nodes.specs.Known.{Name, Known, entry_of, with_entry, named, nothing_known}
+use Rattle.script_nodes.specs.Values.{expr_value}
+use Rattle.script_nodes.specs.Definitions.{name_text, rounding_by, definition_value}
+use Rattle.script_claims.specs.Claims.{formula_claims}
+use Rattle.script_hints.specs.Hints.{with_variable, needs_value, HintsSoFar, with_halved}
+use Rattle.script_hints.specs.Hints.{with_names, with_halving, with_hint, with_hints, no_hints}
+use Rattle.script_hints.specs.Hints as hints
+use Rattle.script_grammar.specs.Meaning.{meaning_from}
+use Rattle.cert_checker.specs.Faults.{IsVariable}
 use Rattle.answer_certificates.proofs.Keeping.{expr_so, formula_so, needs_so, sides_so}
 use Rattle.answer_certificates.proofs.Numbered.{Stays, stays_itself, put_stays, named_stays}
 use Rattle.answer_certificates.proofs.Numbered.{named_at}
 use Rattle.answer_certificates.proofs.Passed.{one_passed, split_plain}
-use Rattle.facts.specs.CommonParts.{all_as, all_last}
-use Rattle.script_cases.specs.Lists.{all_front, all_behind}
 
 -- ---- lists
 

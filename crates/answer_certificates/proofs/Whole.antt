@@ -9,39 +9,39 @@ use Rattle.fx_model.specs.declared.Node.{Node}
 use Rattle.fx_model.specs.declared.Node.TheVariants.{Var}
 use Rattle.facts.specs.declared.hint.HintRow.{HintRow}
 use Rattle.facts.specs.declared.instance.Instance.{Instance}
-use Rattle.tree_certificates.specs.theorem_list.Concludes.{concludes}
-use Rattle.tree_certificates.specs.derivation.Lists.{IsLawful}
-use Rattle.tree_certificates.specs.derivation.Derivations.{Setting}
-use Rattle.tree_certificates.specs.derivation.Known.{Piece, IsTableAt}
-use Rattle.tree_certificates.specs.derivation.Exists.{table_at}
-use Rattle.tree_certificates.specs.derivation.Laws.{TablesExist}
-use Rattle.script_checker.specs.script_hints.Few.{HaveFewPieces}
-use Rattle.settler.specs.rule_universe.Worlds.{World, IsWhole}
-use Rattle.settler.specs.saturate.Universes.{setting_of}
-use Rattle.settler.specs.box_tree.declared.cut.Cut.{Cut}
-use Rattle.settler.specs.box_tree.Pieces.{piece_count}
-use Rattle.settler.specs.box_tree.Regions.{PlanParts, region_below, region_at}
-use Rattle.settler.specs.box_tree.Plans.{cut_at, pieces_at}
-use Rattle.settler.specs.bisect.declared.settler.State.{State}
-use Rattle.settler.specs.bisect.declared.outcome.Leaf.{Leaf}
-use Rattle.settler.specs.bisect.declared.outcome.Outcome.{Outcome}
-use Rattle.settler.specs.bisect.declared.outcome.Outcome.TheVariants as outcome
-use Rattle.settler.specs.bisect.Trees.{tree_of}
-use Rattle.settler.specs.bisect.Trees as bisect
-use Rattle.settler.specs.bisect.Boxes.{AreBoxes, first_open, leaves_of}
-use Rattle.settler.specs.bisect.Answers.{IsAnswer}
-use Rattle.settler.specs.bisect.Walks.{boxes_from, IsListed}
+use Rattle.facts.specs.CommonParts.{at_option}
+use Rattle.theorem_list.specs.Concludes.{concludes}
+use Rattle.script_hints.specs.Few.{HaveFewPieces}
+use Rattle.derivation.specs.Lists.{IsLawful}
+use Rattle.derivation.specs.Derivations.{Setting}
+use Rattle.derivation.specs.Known.{Piece, IsTableAt}
+use Rattle.derivation.specs.Exists.{table_at}
+use Rattle.derivation.specs.Laws.{TablesExist}
+use Rattle.rule_universe.specs.Worlds.{World, IsWhole}
+use Rattle.saturate.specs.Universes.{setting_of}
+use Rattle.box_tree.specs.declared.cut.Cut.{Cut}
+use Rattle.box_tree.specs.Pieces.{piece_count}
+use Rattle.box_tree.specs.Regions.{PlanParts, region_below, region_at}
+use Rattle.box_tree.specs.Plans.{cut_at, pieces_at}
+use Rattle.box_tree.specs.InRanges.{root_pieces}
+use Rattle.bisect.specs.declared.settler.State.{State}
+use Rattle.bisect.specs.declared.outcome.Leaf.{Leaf}
+use Rattle.bisect.specs.declared.outcome.Outcome.{Outcome}
+use Rattle.bisect.specs.declared.outcome.Outcome.TheVariants as outcome
+use Rattle.bisect.specs.Trees.{tree_of}
+use Rattle.bisect.specs.Trees as bisect
+use Rattle.bisect.specs.Boxes.{AreBoxes, first_open, leaves_of}
+use Rattle.bisect.specs.Answers.{IsAnswer}
+use Rattle.bisect.specs.Walks.{boxes_from, IsListed}
 use Rattle.settler.specs.Standing.{AreStates}
 use Rattle.settler.specs.Answers.{plan_of}
-use Rattle.tree_certificates.specs.cert_checker.Faults.{IsVariable}
+use Rattle.cert_checker.specs.Faults.{IsVariable}
 use Rattle.tree_certificates.specs.Trees.{Tree, IsProved, lines_of_tree}
 use Rattle.answer_certificates.specs.Boxes.{boxes_of, rows_from, IsProvedTree}
 use Rattle.answer_certificates.specs.Laws.{InstancesAreFew, TreesAreProved}
 use Rattle.answer_certificates.proofs.Counted.{few_instances}
 use Rattle.answer_certificates.proofs.Known.{AreRangesAt, whole_ranges}
 use Rattle.answer_certificates.proofs.Proved.{box_done}
-use Rattle.facts.specs.CommonParts.{at_option}
-use Rattle.settler.specs.box_tree.InRanges.{root_pieces}
 
 -- ---- the root
 root_ranges : (u : Setting) (height : ℕ) (plan : PlanParts) → AreRangesAt u height [] plan.ranges

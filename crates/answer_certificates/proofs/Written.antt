@@ -5,20 +5,20 @@ use Rattle.std.proofs.lemmas.Option.{slice_get_within}
 use Rattle.fx_model.specs.declared.ExprId.{ExprId}
 use Rattle.fx_model.specs.declared.Node.{Node}
 use Rattle.fx_model.specs.declared.Node.TheVariants.{Sub}
+use Rattle.pair_closure.specs.Reached.{Has}
+use Rattle.pair_closure.specs.Reached.IsReached.{begin}
+use Rattle.pair_closure.specs.Closure.{IsClosure}
+use Rattle.pair_closure.specs.Closure.BeginsExpressions.{difference}
 use Rattle.facts.specs.declared.fact.Slot.{Slot}
 use Rattle.facts.specs.declared.fact.Slot.TheVariants as slot
 use Rattle.facts.specs.declared.hint.HintRow.{HintRow}
-use Rattle.tree_certificates.specs.theorem_list.Concludes.{concludes}
-use Rattle.tree_certificates.specs.derivation.Lists.{IsLawful as IsLawfulList}
-use Rattle.settler.specs.rule_universe.pair_closure.Reached.{Has}
-use Rattle.settler.specs.rule_universe.pair_closure.Reached.IsReached.{begin}
-use Rattle.settler.specs.rule_universe.pair_closure.Closure.{IsClosure}
-use Rattle.settler.specs.rule_universe.pair_closure.Closure.BeginsExpressions.{difference}
-use Rattle.script_checker.specs.script_claims.declared.claim.Claim.{Claim}
-use Rattle.script_checker.specs.script_grammar.Spells.{View}
-use Rattle.settler.specs.script_truths.Truths.{HasUniverse}
-use Rattle.settler.specs.rule_universe.Worlds.{World, IsSlot}
-use Rattle.settler.specs.universe.Starts.{starting_pairs}
+use Rattle.theorem_list.specs.Concludes.{concludes}
+use Rattle.script_claims.specs.declared.claim.Claim.{Claim}
+use Rattle.script_grammar.specs.Spells.{View}
+use Rattle.derivation.specs.Lists.{IsLawful as IsLawfulList}
+use Rattle.rule_universe.specs.Worlds.{World, IsSlot}
+use Rattle.universe.specs.Starts.{starting_pairs}
+use Rattle.script_truths.specs.Truths.{HasUniverse}
 use Rattle.tree_certificates.specs.Writing.{IsSlotKnown}
 use Rattle.tree_certificates.specs.Laws.{RulesFitSteps}
 use Rattle.answer_certificates.specs.Scripts.{HasRoom}

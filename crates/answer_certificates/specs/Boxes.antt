@@ -4,18 +4,18 @@ use Rattle.std.specs.Prelude.{Some, None}
 use Rattle.fx_model.specs.declared.ExprId.{ExprId}
 use Rattle.interval.specs.declared.interval.Interval.{Interval}
 use Rattle.interval.specs.Results.{whole_interval}
-use Rattle.tree_certificates.specs.derivation.Known.{Piece}
 use Rattle.goals.specs.declared.line.Line.{Line}
-use Rattle.settler.specs.rule_universe.Worlds.{World}
-use Rattle.settler.specs.saturate.Universes.{setting_of}
-use Rattle.settler.specs.box_tree.declared.cut.Cut.{Cut}
-use Rattle.settler.specs.box_tree.declared.cut.Cut.TheVariants.{Forced, Half, Bottom}
-use Rattle.settler.specs.box_tree.Plans.{cut_at, piece_at}
-use Rattle.settler.specs.box_tree.Regions.{PlanParts}
-use Rattle.settler.specs.bisect.declared.settler.State.{State}
-use Rattle.settler.specs.bisect.declared.outcome.Leaf.{Leaf}
-use Rattle.settler.specs.bisect.Gathered.{line_with}
-use Rattle.settler.specs.bisect.Trees.{children}
+use Rattle.derivation.specs.Known.{Piece}
+use Rattle.rule_universe.specs.Worlds.{World}
+use Rattle.saturate.specs.Universes.{setting_of}
+use Rattle.box_tree.specs.declared.cut.Cut.{Cut}
+use Rattle.box_tree.specs.declared.cut.Cut.TheVariants.{Forced, Half, Bottom}
+use Rattle.box_tree.specs.Plans.{cut_at, piece_at}
+use Rattle.box_tree.specs.Regions.{PlanParts}
+use Rattle.bisect.specs.declared.settler.State.{State}
+use Rattle.bisect.specs.declared.outcome.Leaf.{Leaf}
+use Rattle.bisect.specs.Gathered.{line_with}
+use Rattle.bisect.specs.Trees.{children}
 use Rattle.tree_certificates.specs.Trees.{Tree, Trees, leaf, cut, last, next, IsProved}
 use Rattle.tree_certificates.specs.Trees.{lines_of_tree, steps_in}
 

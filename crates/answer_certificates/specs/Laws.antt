@@ -2,21 +2,21 @@
 use Rattle.std.specs.Prelude.{◌≡◌, ◌≤◌, ◌^◌, ℕ, List, [], ◌∷◌, ◌++◌, length, Some, None, slice_get}
 use Rattle.fx_model.specs.declared.ExprId.{ExprId}
 use Rattle.goals.specs.declared.line.Line.{Line}
-use Rattle.script_checker.specs.script_claims.declared.claim.Claim.{Claim}
-use Rattle.script_checker.specs.script_grammar.Spells.{View}
-use Rattle.script_checker.specs.script_grammar.Cases.{cases_of}
-use Rattle.settler.specs.script_truths.Truths.{HasUniverse}
-use Rattle.settler.specs.rule_universe.Worlds.{World}
-use Rattle.settler.specs.saturate.Universes.{setting_of}
-use Rattle.settler.specs.box_tree.Plans.{cut_at, piece_at}
-use Rattle.settler.specs.box_tree.Regions.{PlanParts}
-use Rattle.settler.specs.bisect.declared.settler.State.{State}
-use Rattle.settler.specs.bisect.Boxes.{AreBoxes, first_open, leaves_of}
+use Rattle.script_claims.specs.declared.claim.Claim.{Claim}
+use Rattle.script_grammar.specs.Spells.{View}
+use Rattle.script_grammar.specs.Cases.{cases_of}
+use Rattle.rule_universe.specs.Worlds.{World}
+use Rattle.saturate.specs.Universes.{setting_of}
+use Rattle.box_tree.specs.Plans.{cut_at, piece_at}
+use Rattle.box_tree.specs.Regions.{PlanParts}
+use Rattle.bisect.specs.declared.settler.State.{State}
+use Rattle.bisect.specs.Boxes.{AreBoxes, first_open, leaves_of}
+use Rattle.script_truths.specs.Truths.{HasUniverse}
 use Rattle.settler.specs.Standing.{AreStates}
 use Rattle.settler.specs.Answers.{Options, plan_of, tree_by, IsProved}
-use Rattle.tree_certificates.specs.cert_bytes.declared.item.Item.{Item}
-use Rattle.tree_certificates.specs.cert_checker.declared.subject.Subject.{Subject}
-use Rattle.tree_certificates.specs.cert_checker.Accepted.{Accepts}
+use Rattle.cert_bytes.specs.declared.item.Item.{Item}
+use Rattle.cert_checker.specs.declared.subject.Subject.{Subject}
+use Rattle.cert_checker.specs.Accepted.{Accepts}
 use Rattle.script_checker.specs.Subjects.{IsSubjectOf}
 use Rattle.script_checker.specs.Checking.{AreAcceptedFor}
 use Rattle.tree_certificates.specs.Writing.{IsWritable}

@@ -2,14 +2,14 @@
 use Rattle.std.specs.Prelude.{◌≤◌, ◌+◌, ◌*◌, List, ◌++◌, length}
 use Rattle.fx_model.specs.declared.ExprId.{ExprId}
 use Rattle.fx_model.specs.declared.Node.{Node}
-use Rattle.settler.specs.rule_universe.expr_dag.Nodes.{IsAt, IsLawful}
+use Rattle.expr_dag.specs.Nodes.{IsAt, IsLawful}
+use Rattle.pair_closure.specs.Closure.{Pair}
 use Rattle.facts.specs.declared.hint.HintRow.{HintRow}
-use Rattle.settler.specs.rule_universe.pair_closure.Closure.{Pair}
-use Rattle.settler.specs.rule_instances.InOrder.{instance_list}
-use Rattle.script_checker.specs.script_hints.declared.hint.Hint.{Hint}
-use Rattle.script_checker.specs.script_grammar.Few.{constraints_in}
-use Rattle.script_checker.specs.rewrite_hints.Marks.{AreRows}
-use Rattle.settler.specs.rule_universe.Sizes.{beyond_four}
+use Rattle.script_hints.specs.declared.hint.Hint.{Hint}
+use Rattle.script_grammar.specs.Few.{constraints_in}
+use Rattle.rule_instances.specs.InOrder.{instance_list}
+use Rattle.rule_universe.specs.Sizes.{beyond_four}
+use Rattle.rewrite_hints.specs.Marks.{AreRows}
 
 -- Over at most 1,024 nodes a hint asks for its right side, for each divisor of its left side, and
 -- for each of its constraints, with four kinds of facts; each other instance has four premises at

@@ -2,15 +2,15 @@
 use Rattle.std.specs.Prelude.{◌≡◌, ◌≤◌, ◌+◌, ◌*◌, ◌^◌, ⊤, ℕ, List, [], ◌∷◌, length, map}
 use Rattle.goals.specs.declared.line.Line.{Line}
 use Rattle.goals.specs.declared.line.Line.TheVariants as line
-use Rattle.script_checker.specs.script_claims.declared.claim.Claim.{Claim}
-use Rattle.script_checker.specs.script_grammar.Spells.{View}
-use Rattle.script_checker.specs.script_grammar.Cases.{cases_of}
-use Rattle.settler.specs.rule_universe.Worlds.{World}
-use Rattle.settler.specs.saturate.Universes.{setting_of}
-use Rattle.settler.specs.bisect.declared.settler.State.{State}
+use Rattle.script_claims.specs.declared.claim.Claim.{Claim}
+use Rattle.script_grammar.specs.Spells.{View}
+use Rattle.script_grammar.specs.Cases.{cases_of}
+use Rattle.rule_universe.specs.Worlds.{World}
+use Rattle.saturate.specs.Universes.{setting_of}
+use Rattle.bisect.specs.declared.settler.State.{State}
 use Rattle.settler.specs.Standing.{AreStates}
 use Rattle.settler.specs.Answers.{Options, plan_of}
-use Rattle.tree_certificates.specs.cert_checker.declared.subject.Subject.{Subject}
+use Rattle.cert_checker.specs.declared.subject.Subject.{Subject}
 use Rattle.tree_certificates.specs.Roots.{Root, AreRoots, steps_in_roots, lines_of_roots}
 use Rattle.answer_certificates.specs.Scripts.{in_case}
 use Rattle.answer_certificates.specs.Boxes.{boxes_of}

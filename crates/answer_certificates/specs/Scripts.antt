@@ -4,20 +4,20 @@ use Rattle.std.specs.List.{AllByRecursion}
 use Rattle.fx_model.specs.declared.ExprId.{ExprId}
 use Rattle.fx_model.specs.declared.Node.{Node}
 use Rattle.fx_model.specs.declared.Node.TheVariants.{Var}
-use Rattle.settler.specs.rule_universe.expr_dag.Nodes.{IsAt, IsLawful}
+use Rattle.expr_dag.specs.Nodes.{IsAt, IsLawful}
 use Rattle.goals.specs.declared.goal.Goal.{Goal}
-use Rattle.script_checker.specs.node_counts.Few.{HasFewHints}
-use Rattle.script_checker.specs.script_claims.declared.claim.Claim.{Claim}
-use Rattle.script_checker.specs.script_claims.Facts.{facts_of}
-use Rattle.script_checker.specs.script_grammar.Spells.{View, Spells}
-use Rattle.script_checker.specs.script_grammar.Names.{NamesNodes}
-use Rattle.script_checker.specs.script_grammar.Cases.{cases_of}
-use Rattle.script_checker.specs.script_grammar.Few.{constraints_in}
-use Rattle.settler.specs.script_truths.Truths.{HasUniverse}
-use Rattle.settler.specs.rule_universe.Worlds.{World, HasSlot, IsWhole}
-use Rattle.settler.specs.rule_universe.Assumed.{assuming}
-use Rattle.settler.specs.universe.Universes.{IsUniverse}
-use Rattle.tree_certificates.specs.cert_checker.Faults.{IsVariable}
+use Rattle.script_claims.specs.declared.claim.Claim.{Claim}
+use Rattle.script_claims.specs.Facts.{facts_of}
+use Rattle.node_counts.specs.Few.{HasFewHints}
+use Rattle.script_grammar.specs.Spells.{View, Spells}
+use Rattle.script_grammar.specs.Names.{NamesNodes}
+use Rattle.script_grammar.specs.Cases.{cases_of}
+use Rattle.script_grammar.specs.Few.{constraints_in}
+use Rattle.rule_universe.specs.Worlds.{World, HasSlot, IsWhole}
+use Rattle.rule_universe.specs.Assumed.{assuming}
+use Rattle.universe.specs.Universes.{IsUniverse}
+use Rattle.script_truths.specs.Truths.{HasUniverse}
+use Rattle.cert_checker.specs.Faults.{IsVariable}
 
 -- A certificate has room for a case, u being the universe in which its claims are assumed.
 pub record HasRoom (s : View) (u : World) : Type 0 where

@@ -1,5 +1,5 @@
 -- How large the universe of a script is.
-use Rattle.settler.specs.rule_universe.Sizes.{IsSmall}
+use Rattle.rule_universe.specs.Sizes.{IsSmall}
 use Rattle.answer_certificates.specs.Laws.{OfCases}
 
 -- So it is in each case for which certificates have room.

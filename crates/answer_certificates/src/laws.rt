@@ -1,6 +1,6 @@
 //! What holds of the certificates of scripts, for callers to cite. Nothing here is done at run
 //! time.
-ghost use Rattle.settler.specs.box_tree.Regions.{PlanParts};
+ghost use Rattle.box_tree.specs.Regions.{PlanParts};
 ghost use Rattle.answer_certificates.specs.Laws.{UniversesAreWritten, InstancesAreFew};
 ghost use Rattle.answer_certificates.specs.Laws.{SubjectsAreOfUniverses, TreesAreProved};
 ghost use Rattle.answer_certificates.specs.Laws.{PiecesAreOfCuts, ScriptsHaveRoots};
@@ -8,11 +8,13 @@ ghost use Rattle.answer_certificates.specs.Laws.{AnswersHaveCertificates, Answer
 ghost use Rattle.answer_certificates.specs.Premises.{PremisesAreFew};
 ghost use Rattle.answer_certificates.specs.Universes.{UniversesAreSmall};
 
-use settler::{
-    boxes_are_listed, few_cuts_end, one_answer, rules_are_lawful, universes_are_one,
-    universes_extend,
-};
-use tree_certificates::{best_tables_exist, certificates_exist, rules_fit_steps};
+use bisect::{boxes_are_listed, one_answer};
+use box_tree::few_cuts_end;
+use saturate::rules_are_lawful;
+use universe::universes_are_one;
+use script_truths::universes_extend;
+use derivation::best_tables_exist;
+use tree_certificates::{certificates_exist, rules_fit_steps};
 
 /// Nothing is done. The clauses tell a caller that what derivations over a script's universe
 /// conclude can be written as steps, that there are at most 2^22 instances, and that in each case

@@ -2,15 +2,9 @@
 //! its lines.
 #![tactic(auto)]
 
-// What callers name of the crates below.
-pub use script_checker::Script;
-pub use settler::{Case, Cut, Plan, assume};
 
 mod laws;
 mod room;
 
-pub use laws::{
-    answers_have_certificates, pieces_are_of_cuts, scripts_have_roots, subjects_are_written,
-    universes_are_small,
-};
+pub use laws::{answers_have_certificates, pieces_are_of_cuts, scripts_have_roots, subjects_are_written, universes_are_small};
 pub use room::{script_has_room, scripts_have_room};

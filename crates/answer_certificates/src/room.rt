@@ -1,18 +1,16 @@
 //! That there is room for the certificates of scripts, for callers to cite. Nothing here is done at
 //! run time.
 ghost use Rattle.std.specs.Prelude.{List};
-ghost use Rattle.script_checker.specs.script_claims.declared.claim.Claim.{Claim};
-ghost use Rattle.settler.specs.universe.Universes.{IsUniverse};
+ghost use Rattle.script_claims.specs.declared.claim.Claim.{Claim};
+ghost use Rattle.universe.specs.Universes.{IsUniverse};
 ghost use Rattle.answer_certificates.specs.Scripts.{HasCases, ScriptsHaveRoom, HasSlots};
 ghost use Rattle.answer_certificates.specs.Scripts.{GoalsHaveSlots};
 
-use script_checker::{
-    Script, spelled_are_short, spelled_have_few_cases, spelled_have_few_constraints,
-    spelled_have_few_hints,
-};
+use script_grammar::{Script, spelled_are_short, spelled_have_few_cases, spelled_have_few_constraints, spelled_have_few_hints};
 use script_shape::shape::leaves_are_of_trees;
 use script_words::lex::lexed_once;
-use settler::{Universe, hypotheses_have_slots};
+use rule_universe::Universe;
+use universe::hypotheses_have_slots;
 
 /// Nothing is done. The clauses tell a caller that certificates have room for each case of a
 /// script that a text spells, with a universe that was built; and that the goals of a script are

@@ -5,10 +5,10 @@ use Rattle.std.proofs.Common.{subst, arith, inl, inr}
 use Rattle.std.proofs.lemmas.Bool.{cases_lt}
 use Rattle.std.proofs.lemmas.List.{length-take-le, take_all}
 use Rattle.script_nodes.specs.Known.{Name}
-use Rattle.point_text.specs.script_grammar.Spells.{View, Spells}
-use Rattle.whole_texts.specs.Texts.{IsText}
+use Rattle.script_grammar.specs.Spells.{View, Spells}
 use Rattle.point_text.specs.declared.fault.PointFault.{PointFault}
 use Rattle.point_text.specs.PointFaults.{IsPointFault, too_long, not_text, first}
+use Rattle.whole_texts.specs.Texts.{IsText}
 use Rattle.command_runs.specs.Runs.{Bytes}
 use Rattle.command_runs.specs.Fates.{IsTold}
 use Rattle.command_runs.specs.declared.status.Status.{Status}

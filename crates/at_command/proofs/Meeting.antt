@@ -4,11 +4,11 @@ use Rattle.std.specs.Prelude.{false, refl}
 use Rattle.std.proofs.Common.{sym, ap, ◌∙◌, arith}
 use Rattle.std.proofs.lemmas.List.{reverse-append}
 use Rattle.std.proofs.lemmas.Option.{same_Some}
-use Rattle.point_text.specs.script_meets.Meets.{Meets}
-use Rattle.point_text.specs.point_values.Rows.{assignment_of}
-use Rattle.point_text.specs.point_values.Evaluation.{meets}
-use Rattle.point_text.specs.point_eval.Judged.{EndsIn, judged_of}
-use Rattle.point_text.specs.point_eval.Told.{MeetsIsTold}
+use Rattle.script_meets.specs.Meets.{Meets}
+use Rattle.point_values.specs.Rows.{assignment_of}
+use Rattle.point_values.specs.Evaluation.{meets}
+use Rattle.point_eval.specs.Judged.{EndsIn, judged_of}
+use Rattle.point_eval.specs.Told.{MeetsIsTold}
 use Rattle.command_runs.specs.Runs.{Bytes}
 use Rattle.at_command.specs.Laws.{MeetingIsMet}
 

@@ -1,19 +1,19 @@
 -- One status and one text of lines are defined for a text and a point.
 use Rattle.std.proofs.Common.{◌≡◌, List, Option, Some, refl, sym, ap, ◌∙◌, subst}
 use Rattle.std.proofs.lemmas.Option.{none-some}
-use Rattle.point_text.specs.script_grammar.Spells.{View, SpellsOnce}
-use Rattle.point_text.specs.script_grammar.Spells as script
-use Rattle.point_text.specs.rewrite_hints.Marks.{marks_are_one}
-use Rattle.point_text.specs.point_values.Rows.{Row, assignment_of}
-use Rattle.point_text.specs.point_values.Evaluation.{IsTooWide, evaluation_of}
-use Rattle.point_text.specs.point_values.declared.place.Place.{Place}
-use Rattle.point_text.specs.point_eval.Judged.{judged_of}
+use Rattle.script_judge.specs.First.{FirstsAreUnique}
+use Rattle.script_grammar.specs.Spells.{View, SpellsOnce}
+use Rattle.script_grammar.specs.Spells as script
+use Rattle.rewrite_hints.specs.Marks.{marks_are_one}
+use Rattle.point_values.specs.Rows.{Row, assignment_of}
+use Rattle.point_values.specs.Evaluation.{IsTooWide, evaluation_of}
+use Rattle.point_values.specs.declared.place.Place.{Place}
+use Rattle.point_eval.specs.Judged.{judged_of}
 use Rattle.point_text.specs.Once.{SpelledOnce, NeverBoth, FaultsAreOne}
 use Rattle.command_runs.specs.Runs.{Bytes}
 use Rattle.command_runs.specs.Fates.{IsTold}
 use Rattle.command_runs.specs.declared.status.Status.{Status}
 use Rattle.command_runs.specs.declared.status.Status.TheVariants as status
-use Rattle.script_texts.specs.script_grammar.script_judge.First.{FirstsAreUnique}
 use Rattle.script_texts.specs.Texts.{IsRefusedWith, refused_once}
 use Rattle.at_command.specs.Lines.{point_line, wide_line}
 use Rattle.at_command.specs.Told.{AtPrints, IsEvaluated, IsWide, OfPoint, PointTells}

@@ -1,11 +1,11 @@
 -- One answer is defined for a text and a point, and what the last line says is so.
 use Rattle.std.specs.Prelude.{◌≡◌, List, Option, Some, codes}
+use Rattle.script_grammar.specs.Spells.{View, Spells}
+use Rattle.script_meets.specs.Meets.{Meets}
+use Rattle.point_values.specs.Rows.{Row, assignment_of}
+use Rattle.point_eval.specs.Judged.{EndsIn}
 use Rattle.command_runs.specs.Runs.{Bytes}
 use Rattle.command_runs.specs.declared.status.Status.{Status}
-use Rattle.point_text.specs.script_grammar.Spells.{View, Spells}
-use Rattle.point_text.specs.script_meets.Meets.{Meets}
-use Rattle.point_text.specs.point_values.Rows.{Row, assignment_of}
-use Rattle.point_text.specs.point_eval.Judged.{EndsIn}
 use Rattle.at_command.specs.Told.{AtPrints, IsEvaluated}
 
 -- the point's bytes are told wherever the text spells a script

@@ -1,8 +1,8 @@
 -- The printed lines, as bytes. Each ends with a line feed.
 use Rattle.std.specs.Prelude.{ℕ, ◌+◌, ◌++◌, codes, List}
 use Rattle.std.specs.Fmt.{decimal}
-use Rattle.point_text.specs.point_values.declared.place.Place.{Place}
-use Rattle.point_text.specs.point_values.declared.place.Place.TheVariants as place
+use Rattle.point_values.specs.declared.place.Place.{Place}
+use Rattle.point_values.specs.declared.place.Place.TheVariants as place
 use Rattle.point_text.specs.declared.fault.PointKind.{PointKind}
 use Rattle.point_text.specs.declared.fault.PointKind.TheVariants as kind
 use Rattle.point_text.specs.declared.fault.PointFault.{PointFault}

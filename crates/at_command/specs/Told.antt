@@ -1,13 +1,13 @@
 -- What `at` answers to a text and a point: a status and lines.
 use Rattle.std.specs.Prelude.{◌≡◌, List, Option, codes}
 use Rattle.facts.specs.declared.hint.HintMark.{HintMark}
-use Rattle.point_text.specs.script_grammar.Spells.{View, Spells}
-use Rattle.point_text.specs.script_meets.Meets.{Meets}
-use Rattle.point_text.specs.rewrite_hints.Marks.{AreMarks}
-use Rattle.point_text.specs.point_values.Rows.{Row, assignment_of}
-use Rattle.point_text.specs.point_values.Evaluation.{IsNarrow, IsTooWide, evaluation_of}
-use Rattle.point_text.specs.point_values.declared.place.Place.{Place}
-use Rattle.point_text.specs.point_eval.Judged.{judged_of, EndsIn}
+use Rattle.script_grammar.specs.Spells.{View, Spells}
+use Rattle.script_meets.specs.Meets.{Meets}
+use Rattle.rewrite_hints.specs.Marks.{AreMarks}
+use Rattle.point_values.specs.Rows.{Row, assignment_of}
+use Rattle.point_values.specs.Evaluation.{IsNarrow, IsTooWide, evaluation_of}
+use Rattle.point_values.specs.declared.place.Place.{Place}
+use Rattle.point_eval.specs.Judged.{judged_of, EndsIn}
 use Rattle.point_text.specs.declared.fault.PointFault.{PointFault}
 use Rattle.point_text.specs.Points.{SpellsPoint}
 use Rattle.point_text.specs.PointFaults.{IsPointFault}

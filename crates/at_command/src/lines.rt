@@ -2,7 +2,8 @@
 ghost use Rattle.std.specs.Prelude.{◌≡◌, IfOk};
 ghost use Rattle.at_command.specs.Lines as spec;
 
-use point_text::{Place, PointFault, PointKind};
+use point_values::Place;
+use point_text::{PointFault, PointKind};
 use std::alloc::{AllocError, Global};
 
 // The kind's name.

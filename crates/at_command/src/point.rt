@@ -1,14 +1,18 @@
 // The status and the lines for a script and a point.
 ghost use Rattle.std.specs.Prelude.{IfOk, IsErrOf};
 ghost use Rattle.fx_edge.specs.OnlyReads.{OnlyReads};
-ghost use Rattle.point_text.specs.script_grammar.Spells.{View, Spells};
-ghost use Rattle.point_text.specs.point_eval.Points.{AreRowsOf};
+ghost use Rattle.script_grammar.specs.Spells.{View, Spells};
+ghost use Rattle.point_eval.specs.Points.{AreRowsOf};
 ghost use Rattle.at_command.specs.Told.{AtPrints, PointTells, RowsTell};
 
 use crate::lines::{point_line, wide_line};
 use command_runs::Status;
 use fx_edge::Folder;
-use point_text::{EvalStop, Point, PointStop, Script, evaluate, marks_of, parse, read_point};
+use point_values::EvalStop;
+use point_eval::{Point, evaluate};
+use point_text::{PointStop, read_point};
+use script_grammar::{Script, parse};
+use rewrite_hints::marks_of;
 use script_texts::refused_line;
 use std::alloc::{AllocError, Global};
 use whole_texts::{ReadStop, read_text};

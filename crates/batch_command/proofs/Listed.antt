@@ -6,12 +6,12 @@ use Rattle.std.specs.declared.alloc.Global.{Global}
 use Rattle.std.proofs.Common.{◌∙◌, ap, arith, sym, subst, inr, ℕ, suc}
 use Rattle.std.proofs.lemmas.List.{length-take}
 use Rattle.fx_edge.specs.Outside.{Rose, rose_later}
-use Rattle.script_answers.specs.settler.Answers.{Options}
-use Rattle.whole_texts.specs.Texts.{IsText}
+use Rattle.settler.specs.Answers.{Options}
+use Rattle.command_line.specs.Batch.{AskedBatch}
 use Rattle.name_list.specs.declared.fault.ListFault.{ListFault}
 use Rattle.name_list.specs.Fronts.{FrontsDecide, FaultlessAreWhole}
 use Rattle.name_list.specs.Lists.{IsFaultOf, lines_of}
-use Rattle.command_line.specs.Batch.{AskedBatch}
+use Rattle.whole_texts.specs.Texts.{IsText}
 use Rattle.command_runs.specs.Runs.{Bytes, Told}
 use Rattle.command_runs.specs.Fates.{IsTold, ending}
 use Rattle.command_runs.specs.Fates.Ending.{Done}

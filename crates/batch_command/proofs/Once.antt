@@ -1,10 +1,10 @@
 -- One status comes of a list that is told, and whose names are.
 use Rattle.std.specs.Prelude.{◌≡◌, ◌⊎◌, List, [], ◌∷◌, Option, Some, None, refl}
 use Rattle.std.proofs.Common.{◌∙◌, ap₂, sym, subst, inl, inr}
-use Rattle.script_answers.specs.settler.Answers.{Options}
+use Rattle.settler.specs.Answers.{Options}
+use Rattle.command_line.specs.Batch.{AskedBatch}
 use Rattle.name_list.specs.declared.fault.ListFault.{ListFault}
 use Rattle.name_list.specs.Lists.{FaultsAreOne, IsFaultOf, lines_of}
-use Rattle.command_line.specs.Batch.{AskedBatch}
 use Rattle.command_runs.specs.Ends.{IsOnce}
 use Rattle.command_runs.specs.Fates.{AreTold, IsTold}
 use Rattle.command_runs.specs.Runs.{Bytes, Told}

@@ -4,9 +4,9 @@ use Rattle.std.specs.Prelude.{slice_get, vec_len}
 use Rattle.std.specs.declared.vec.Vec.{Vec}
 use Rattle.std.specs.declared.alloc.Global.{Global}
 use Rattle.std.proofs.Common.{arith, subst, add-one}
-use Rattle.script_answers.specs.settler.Answers.{Options}
-use Rattle.command_runs.specs.declared.status.Status.{Status}
 use Rattle.job_workers.specs.Results.{AreResults}
+use Rattle.settler.specs.Answers.{Options}
+use Rattle.command_runs.specs.declared.status.Status.{Status}
 use Rattle.script_answers.specs.Answers.{ProvePrints}
 use Rattle.batch_command.specs.Told.{AreAnswers}
 

@@ -6,11 +6,11 @@ use Rattle.std.specs.declared.vec.Vec.{Vec}
 use Rattle.std.specs.declared.alloc.Global.{Global}
 use Rattle.std.proofs.Common.{arith, ap, sym, ◌∙◌, inl, inr, get_or}
 use Rattle.std.proofs.lemmas.List.{length-map}
+use Rattle.std.proofs.Math.Nat.{suc-add}
 use Rattle.whole_texts.specs.Texts.{IsText}
 use Rattle.command_runs.specs.Runs.{Bytes, Told}
 use Rattle.batch_command.specs.Command.{IsIn}
 use Rattle.batch_command.specs.Told.{AreRead}
-use Rattle.std.proofs.Math.Nat.{suc-add}
 
 pub one_more : (told : Told) (names : List Bytes) (texts : List (Vec ℕ Global)) (name : Bytes)
     (text : Vec ℕ Global) → AreRead told names texts → IsText 1048577 (told name) text.items

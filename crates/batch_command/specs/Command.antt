@@ -1,6 +1,6 @@
 -- What `batch` does.
 use Rattle.std.specs.Prelude.{◌≡◌, ◌⊎◌, ◌++◌, List, [], ◌∷◌, Some, None}
-use Rattle.script_answers.specs.settler.Answers.{Options}
+use Rattle.settler.specs.Answers.{Options}
 use Rattle.command_line.specs.Batch.{AskedBatch}
 use Rattle.name_list.specs.declared.fault.ListFault.{ListFault}
 use Rattle.name_list.specs.Lists.{IsFaultOf, lines_of}

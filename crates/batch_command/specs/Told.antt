@@ -2,9 +2,9 @@
 use Rattle.std.specs.Prelude.{◌≡◌, ◌++◌, ⊤, ℕ, List, [], ◌∷◌}
 use Rattle.std.specs.declared.vec.Vec.{Vec}
 use Rattle.std.specs.declared.alloc.Global.{Global}
-use Rattle.script_answers.specs.settler.Answers.{Options}
-use Rattle.whole_texts.specs.Texts.{IsText}
+use Rattle.settler.specs.Answers.{Options}
 use Rattle.command_line.specs.Batch.{AskedBatch}
+use Rattle.whole_texts.specs.Texts.{IsText}
 use Rattle.command_runs.specs.Runs.{Bytes, Told}
 use Rattle.command_runs.specs.Fates.{OfText}
 use Rattle.command_runs.specs.Statuses.{read_fault_line}

@@ -2,7 +2,8 @@
 ghost use Rattle.std.specs.Prelude.{◌<◌, length, IfOk};
 
 use anyhow::Result;
-use expr_dag::{Dag, DagFault, ExprId, Node};
+use expr_dag::{Dag, DagFault};
+use fx_model::{ExprId, Node};
 use poly_normal::{Sameness, same};
 use std::alloc::Global;
 use std::rt::Clock;

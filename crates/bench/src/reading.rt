@@ -3,7 +3,7 @@
 use crate::clock::Least;
 use crate::filled::{Filling, filled};
 use anyhow::Result;
-use script_checker::{ParseStop, parse};
+use script_grammar::{ParseStop, parse};
 use std::alloc::Global;
 use std::fmt;
 use std::rt::Clock;

@@ -2,7 +2,7 @@
 
 use crate::filled::{Filling, copies, filled};
 use anyhow::Result;
-use script_shape::read_words;
+use script_words::words::read_words;
 use script_shape::shape::shape_of;
 use std::rt::Clock;
 use std::time::Instant;

@@ -3,8 +3,11 @@
 use crate::clock::each;
 use crate::numbers::{table, weight, with_part};
 use anyhow::Result;
-use expr_dag::{Dag, ExprId, Node};
-use facts::{Dyadic, End, Fact, Interval, Slot};
+use expr_dag::Dag;
+use fx_model::{ExprId, Node};
+use dyadic::{Dyadic, End};
+use facts::{Fact, Slot};
+use interval::Interval;
 use std::alloc::{AllocError, Global};
 use std::rt::Clock;
 use std::time::Instant;

@@ -3,11 +3,12 @@
 use crate::clock::Least;
 use anyhow::Result;
 use made_script::made_script;
-use script_checker::{Script, parse};
+use script_grammar::{Script, parse};
 use std::alloc::Global;
 use std::rt::Clock;
 use std::time::Instant;
-use universe::{Universe, assume, build};
+use rule_universe::Universe;
+use universe::{assume, build};
 
 /// The degrees of the made scripts: universes of 106, 502 and 1,024 expressions.
 const DEGREES: [u8; 3] = [6, 28, 57];

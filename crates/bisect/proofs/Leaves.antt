@@ -5,13 +5,13 @@ use Rattle.std.specs.List.{AllByRecursion}
 use Rattle.std.proofs.Common.{sym, ◌∙◌, ap, subst, inl, inr, arith, length-append}
 use Rattle.fx_model.specs.Expression.{Assignment}
 use Rattle.fx_model.specs.declared.Node.{Node}
-use Rattle.box_tree.specs.facts.declared.fact.Fact.{Fact}
-use Rattle.box_tree.specs.facts.declared.fact.Slot.{Slot}
-use Rattle.box_tree.specs.facts.Holds.{Holds}
-use Rattle.box_tree.specs.facts.Order.{slot_of}
-use Rattle.box_tree.specs.goals.declared.line.Line.{Line}
-use Rattle.box_tree.specs.goals.declared.line.Line.TheVariants as line
-use Rattle.box_tree.specs.goals.Holds.{LineHolds, IsOfGoal, LineHoldsFirst, LineHoldsOn}
+use Rattle.facts.specs.declared.fact.Fact.{Fact}
+use Rattle.facts.specs.declared.fact.Slot.{Slot}
+use Rattle.facts.specs.Holds.{Holds}
+use Rattle.facts.specs.Order.{slot_of}
+use Rattle.goals.specs.declared.line.Line.{Line}
+use Rattle.goals.specs.declared.line.Line.TheVariants as line
+use Rattle.goals.specs.Holds.{LineHolds, IsOfGoal, LineHoldsFirst, LineHoldsOn}
 use Rattle.bisect.specs.declared.settler.State.{State}
 use Rattle.bisect.specs.declared.settler.State.TheVariants as state
 use Rattle.bisect.specs.declared.outcome.Leaf.{Leaf}

@@ -1,13 +1,13 @@
 -- The lines of goals, gathered over leaves.
 use Rattle.std.specs.Prelude.{◌≡◌, ⊤, ℕ, List, [], ◌∷◌, map, slice_get, Option, Some, None}
 use Rattle.std.specs.List.{AllByRecursion, range_with_len}
-use Rattle.box_tree.specs.facts.declared.fact.Fact.{Fact}
-use Rattle.box_tree.specs.facts.declared.fact.Slot.{Slot}
-use Rattle.box_tree.specs.facts.Order.{slot_of}
-use Rattle.box_tree.specs.goals.declared.line.Line.{Line}
-use Rattle.box_tree.specs.goals.declared.line.Line.TheVariants as line
-use Rattle.box_tree.specs.goals.Joined.{joined}
-use Rattle.box_tree.specs.goals.Holds.{IsOfGoal}
+use Rattle.facts.specs.declared.fact.Fact.{Fact}
+use Rattle.facts.specs.declared.fact.Slot.{Slot}
+use Rattle.facts.specs.Order.{slot_of}
+use Rattle.goals.specs.declared.line.Line.{Line}
+use Rattle.goals.specs.declared.line.Line.TheVariants as line
+use Rattle.goals.specs.Joined.{joined}
+use Rattle.goals.specs.Holds.{IsOfGoal}
 use Rattle.bisect.specs.declared.settler.State.{State}
 use Rattle.bisect.specs.declared.settler.State.TheVariants as state
 use Rattle.bisect.specs.declared.outcome.Leaf.{Leaf}

@@ -2,10 +2,10 @@
 use Rattle.std.specs.Prelude.{ℕ, List, [], ◌∷◌, Option, Some, None, slice_get}
 use Rattle.fx_model.specs.Expression.{Assignment}
 use Rattle.fx_model.specs.declared.Node.{Node}
-use Rattle.box_tree.specs.facts.declared.fact.Fact.{Fact}
-use Rattle.box_tree.specs.facts.declared.fact.Slot.{Slot}
-use Rattle.box_tree.specs.goals.declared.line.Line.{Line}
-use Rattle.box_tree.specs.goals.Holds.{LineHolds, LineHoldsOn}
+use Rattle.facts.specs.declared.fact.Fact.{Fact}
+use Rattle.facts.specs.declared.fact.Slot.{Slot}
+use Rattle.goals.specs.declared.line.Line.{Line}
+use Rattle.goals.specs.Holds.{LineHolds, LineHoldsOn}
 use Rattle.bisect.specs.declared.settler.State.{State}
 use Rattle.bisect.specs.declared.settler.State.TheVariants as state
 use Rattle.bisect.specs.declared.outcome.Leaf.{Leaf}

@@ -3,10 +3,10 @@ use Rattle.std.specs.Prelude.{◌≡◌, ℕ, ◌+◌, ◌≤◌, List, length, 
 use Rattle.std.proofs.Common.{arith, ◌<◌}
 use Rattle.box_tree.specs.declared.cut.Cut.{Cut}
 use Rattle.box_tree.specs.declared.cut.Cut.TheVariants as cut
-use Rattle.bisect.specs.declared.settler.State.{State}
-use Rattle.bisect.specs.declared.settler.State.TheVariants as state
 use Rattle.box_tree.specs.Paths.{IsPathOf}
 use Rattle.box_tree.specs.Pieces.{piece_count}
+use Rattle.bisect.specs.declared.settler.State.{State}
+use Rattle.bisect.specs.declared.settler.State.TheVariants as state
 
 -- the cut of each box, and how it stands
 pub record Tree : Type 0 where

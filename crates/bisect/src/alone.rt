@@ -2,11 +2,11 @@
 ghost use Rattle.std.specs.Prelude.{◌≡◌, ◌<◌, ◌≤◌, ◌+◌, ◌-◌, ℕ, List, [], IsTrue, false, IfOk};
 ghost use Rattle.std.specs.Prelude.{OnOk, MatchOption, length};
 ghost use Rattle.box_tree.specs.Paths.{IsChild, IsPathOf};
+ghost use Rattle.box_tree.specs.Pieces.{piece_count};
+ghost use Rattle.box_tree.specs.Plans.{cut_at};
 ghost use Rattle.bisect.specs.Trees.{tree_of, children};
 ghost use Rattle.bisect.specs.Answers.{IsAnswer};
 ghost use Rattle.bisect.specs.Walks.{StaysWithin, boxes_from, seen_by, with_one, after};
-ghost use Rattle.box_tree.specs.Pieces.{piece_count};
-ghost use Rattle.box_tree.specs.Plans.{cut_at};
 
 use crate::outcome::{Leaf, Outcome};
 use crate::settler::{Posted, Settler, State, Verdict};

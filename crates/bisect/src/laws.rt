@@ -4,9 +4,9 @@ ghost use Rattle.std.specs.Prelude.{slice_get};
 ghost use Rattle.std.specs.List.{Contains};
 ghost use Rattle.fx_model.specs.Expression.{Assignment, value};
 ghost use Rattle.fx_model.specs.declared.Node.{Node};
-ghost use Rattle.box_tree.specs.facts.Holds.{Holds};
-ghost use Rattle.box_tree.specs.facts.declared.fact.Slot.{Slot};
-ghost use Rattle.box_tree.specs.goals.Holds.{LineHolds};
+ghost use Rattle.facts.specs.Holds.{Holds};
+ghost use Rattle.facts.specs.declared.fact.Slot.{Slot};
+ghost use Rattle.goals.specs.Holds.{LineHolds};
 ghost use Rattle.box_tree.specs.Covers.{Values, LieInBox};
 ghost use Rattle.box_tree.specs.Pieces.{piece_count};
 ghost use Rattle.box_tree.specs.Plans.{cut_at};
@@ -20,7 +20,8 @@ ghost use Rattle.bisect.specs.Gathered.{line_of, IsTrueState};
 ghost use Rattle.bisect.specs.declared.settler.State.{State};
 ghost use Rattle.bisect.specs.declared.outcome.Outcome.{Outcome};
 
-use box_tree::{Plan, lines_hold};
+use box_tree::Plan;
+use goals::lines_hold;
 
 /// Nothing is done. The clauses tell a caller that all values of the whole box lie in some leaf's
 /// box; and that where no leaf is open, and each leaf's state is true wherever the values lie in

@@ -1,8 +1,6 @@
 //! Bisection: the answer of a tree of boxes.
 #![tactic(auto)]
 
-// What callers name of the crates below.
-pub use box_tree::{Claim, Cut, Plan, few_cuts_end, lines_hold, pieces_are_of_hypotheses};
 
 mod alone;
 mod laws;

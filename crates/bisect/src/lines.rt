@@ -4,7 +4,7 @@ ghost use Rattle.bisect.specs.Gathered as spec;
 
 use crate::outcome::Leaf;
 use crate::settler::State;
-use box_tree::Line;
+use goals::Line;
 use fx_edge::Items;
 use std::alloc::{AllocError, Global};
 

@@ -5,7 +5,8 @@ ghost use Rattle.box_tree.specs.Pieces.{piece_count};
 ghost use Rattle.box_tree.specs.declared.cut.Cut.{Cut};
 ghost use Rattle.bisect.specs.declared.settler.State.{State};
 
-use box_tree::{Cut, Fact};
+use box_tree::Cut;
+use facts::Fact;
 use fx_edge::{Items, Path};
 use std::alloc::{AllocError, Global};
 

@@ -1,11 +1,11 @@
 -- Each step keeps the rule of a lane.
+use mathlib.Core.Option.{some, some-ne-none}
+use lib.ListN.{get_elem?}
 use Rattle.std.proofs.Common.{◌≡◌, ◌≢◌, ◌==◌, ◌⊎◌, ℕ, zero, suc, ◌+◌, ◌<◌, ◌≤◌, true, true≢false}
 use Rattle.std.proofs.Common.{cond, List, [], ◌∷◌, ◌++◌, length, map, set, slice_index_or, sym}
 use Rattle.std.proofs.Common.{refl, ap, ◌∙◌, subst, inl, inr, ⊎_elim, append_assoc, length-append}
 use Rattle.std.proofs.Common.{arith}
 use Rattle.std.proofs.lemmas.List.Elements.{All-push}
-use mathlib.Core.Option.{some, some-ne-none}
-use lib.ListN.{get_elem?}
 use Rattle.crossbeam_deque.specs.Tasks.{Pushes, Takes, Finds, FindsFew, Blocks, Forks, Merges}
 use Rattle.crossbeam_deque.specs.Tasks.{Learns}
 use Rattle.crossbeam_deque.proofs.Lists.{at_set}

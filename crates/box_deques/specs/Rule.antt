@@ -1,9 +1,9 @@
 -- The rule of a lane: what was taken, in order of place, and then what waits, is what was pushed,
 -- and each party knows its takes.
-use Rattle.std.specs.Prelude.{◌≡◌, ◌⊎◌, ◌==◌, ℕ, ◌+◌, ◌<◌, ◌≤◌, true, cond, List, [], ◌∷◌, ◌++◌}
-use Rattle.std.specs.Prelude.{map, length, All, slice_index_or, Option, Some, None}
 use mathlib.Core.Option.{some}
 use lib.ListN.{get_elem?}
+use Rattle.std.specs.Prelude.{◌≡◌, ◌⊎◌, ◌==◌, ℕ, ◌+◌, ◌<◌, ◌≤◌, true, cond, List, [], ◌∷◌, ◌++◌}
+use Rattle.std.specs.Prelude.{map, length, All, slice_index_or, Option, Some, None}
 use Rattle.box_deques.specs.declared.rule.View.{View}
 use Rattle.box_deques.specs.Views.{Take, pushing, taking}
 

@@ -1,6 +1,6 @@
 //! What became of the tasks of a lane.
-ghost use Rattle.std.specs.Prelude.{◌≡◌, ℕ, List, ◌+◌, ◌<◌, ◌≤◌, true, [], length, map};
-ghost use Rattle.std.specs.Prelude.{drop, All, vec_capacity, IfOk, IfErr, OnOk, sum_by};
+ghost use Rattle.std.specs.Prelude.{◌≡◌, ℕ, List, ◌+◌, ◌<◌, ◌≤◌, true, [], length, map, drop, All};
+ghost use Rattle.std.specs.Prelude.{vec_capacity, IfOk, IfErr, OnOk, sum_by};
 ghost use Rattle.crossbeam_deque.specs.Handles.{worker_deque, worker_flavor, worker_view};
 ghost use Rattle.crossbeam_deque.specs.Handles.{SameWorker};
 ghost use Rattle.box_deques.specs.Close.{writes, writes_all, AllBelow, IsLedgerOf};

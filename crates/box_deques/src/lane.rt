@@ -1,9 +1,7 @@
 //! A lane, its thieves and the hands that take from it.
-ghost use Rattle.std.specs.Prelude.{◌≡◌, ◌<◌, ◌≤◌, true, false, [], length};
-ghost use Rattle.std.specs.Prelude.{vec_len, vec_capacity, Some, None, IfOk};
-ghost use Rattle.std.specs.Prelude.{IfSome, IfNone, MatchResult};
-ghost use Rattle.crossbeam_deque.specs.Handles.{view, worker_deque};
-ghost use Rattle.crossbeam_deque.specs.Handles.{worker_flavor, worker_view};
+ghost use Rattle.std.specs.Prelude.{◌≡◌, ◌<◌, ◌≤◌, true, false, [], length, vec_len, vec_capacity};
+ghost use Rattle.std.specs.Prelude.{Some, None, IfOk, IfSome, IfNone, MatchResult};
+ghost use Rattle.crossbeam_deque.specs.Handles.{view, worker_deque, worker_flavor, worker_view};
 ghost use Rattle.crossbeam_deque.specs.Handles.{worker_index, worker_capacity};
 ghost use Rattle.box_deques.specs.Moments.{MayBeEmpty, Pops};
 ghost use Rattle.box_deques.specs.Rule.{Belongs};

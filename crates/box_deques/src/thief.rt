@@ -1,7 +1,5 @@
 //! Takes tasks of one lane, from any thread.
-ghost use Rattle.std.specs.Prelude.{◌≡◌, ◌≢◌, ◌<◌, true, [], ◌∷◌};
-ghost use Rattle.std.specs.Prelude.{Some, None};
-ghost use Rattle.std.specs.Prelude.{IfSome, IfNone};
+ghost use Rattle.std.specs.Prelude.{◌≡◌, ◌≢◌, ◌<◌, true, [], ◌∷◌, Some, None, IfSome, IfNone};
 ghost use Rattle.crossbeam_deque.specs.Handles.{view, IsPassOf, SamePass, stealer_deque};
 ghost use Rattle.crossbeam_deque.specs.Handles.{stealer_flavor};
 ghost use Rattle.box_deques.specs.Rule.{Belongs, WasEmpty, Takes1};

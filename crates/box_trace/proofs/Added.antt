@@ -1,6 +1,6 @@
 -- Steps that come by instances, and those of rounds after one another.
-use Rattle.std.specs.Prelude.{◌≡◌, ◌≢◌, ◌⊎◌, ◌≤◌, ◌+◌, ◌-◌, ℕ, zero, suc, List, [], ◌∷◌}
-use Rattle.std.specs.Prelude.{◌++◌, length, map, Option, Some, None, slice_get, refl}
+use Rattle.std.specs.Prelude.{◌≡◌, ◌≢◌, ◌⊎◌, ◌≤◌, ◌+◌, ◌-◌, ℕ, zero, suc, List, [], ◌∷◌, ◌++◌}
+use Rattle.std.specs.Prelude.{length, map, Option, Some, None, slice_get, refl}
 use Rattle.std.specs.List.{AllByRecursion}
 use Rattle.std.proofs.Common.{arith, sym, ap, subst, ◌∙◌, inl, inr, ⊎_elim, append_assoc}
 use Rattle.std.proofs.lemmas.Bool.{cases_lt}
@@ -10,14 +10,16 @@ use Rattle.facts.specs.declared.fact.Slot.{Slot}
 use Rattle.facts.specs.declared.instance.Instance.{Instance}
 use Rattle.facts.specs.Order.{slot_of}
 use Rattle.facts.specs.CommonParts.{all_as, all_last}
-use Rattle.saturate.specs.theorem_list.Concludes.{concludes}
-use Rattle.saturate.specs.derivation.Rounds.{Reads, conclusion}
-use Rattle.saturate.specs.derivation.Parts.{slot_cases, none_some, conclusion_reads}
-use Rattle.tree_certificates.specs.cert_bytes.declared.item.StepRow.{StepRow}
-use Rattle.tree_certificates.specs.cert_checker.declared.given.Given.{Given}
-use Rattle.tree_certificates.specs.cert_checker.Given.{given_number, given_of, given_back}
-use Rattle.saturate.specs.rule_universe.Worlds.{World}
-use Rattle.saturate.specs.rule_universe.declared.placed.Placed.{Placed}
+use Rattle.theorem_list.specs.Concludes.{concludes}
+use Rattle.derivation.specs.Rounds.{Reads, conclusion}
+use Rattle.derivation.specs.Parts.{slot_cases, none_some, conclusion_reads}
+use Rattle.rule_universe.specs.Worlds.{World}
+use Rattle.rule_universe.specs.declared.placed.Placed.{Placed}
+use Rattle.cert_bytes.specs.declared.item.StepRow.{StepRow}
+use Rattle.cert_checker.specs.declared.given.Given.{Given}
+use Rattle.cert_checker.specs.Given.{given_number, given_of, given_back}
+use Rattle.tree_certificates.specs.Cited.{mapped}
+use Rattle.tree_certificates.specs.Coming.{coming}
 use Rattle.box_trace.specs.declared.known.Cited.{Cited}
 use Rattle.box_trace.specs.declared.known.Known.{Known}
 use Rattle.box_trace.specs.declared.log.Log.{Log}
@@ -25,13 +27,10 @@ use Rattle.box_trace.specs.declared.ends.Found.{Found}
 use Rattle.box_trace.specs.Tables.{fact_of, number_of, number_or, row_of, row_in, cited_at}
 use Rattle.box_trace.specs.Tables.{known_at, step_at, place_in}
 use Rattle.box_trace.specs.Logs.{kept_in, IsStep, Comes, IsRound, more_by}
-use Rattle.box_trace.specs.Rounds.{premises_in, beyond_in, IsStepIn, IsEarlier}
-use Rattle.box_trace.specs.Rounds.{IsByInstance, IsRoundOf, AreRounds, IsGivenStep}
-use Rattle.box_trace.specs.Rounds.{AreFromEarlier}
-use Rattle.box_trace.specs.Rounds.{AreByRounds, AddsSteps, BeginsBy, HasRounds}
+use Rattle.box_trace.specs.Rounds.{premises_in, beyond_in, IsStepIn, IsEarlier, IsByInstance}
+use Rattle.box_trace.specs.Rounds.{IsRoundOf, AreRounds, IsGivenStep, AreFromEarlier, AreByRounds}
+use Rattle.box_trace.specs.Rounds.{AddsSteps, BeginsBy, HasRounds}
 use Rattle.box_trace.proofs.Logged.{ComesGiven}
-use Rattle.tree_certificates.specs.Cited.{mapped}
-use Rattle.tree_certificates.specs.Coming.{coming}
 
 -- ---- lists of steps
 all_joined : {A : Type 0} (P : A → Type 0) (xs ys : List A) → AllByRecursion P xs

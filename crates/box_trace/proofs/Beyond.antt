@@ -1,24 +1,24 @@
 -- Premises beyond four, by the places of instances' targets: each instance aims at one place.
-use Rattle.std.specs.Prelude.{◌≡◌, ◌<◌, ◌≤◌, ◌+◌, ◌*◌, ◌-◌, ◌==◌, ℕ, zero, suc, Bool, true}
-use Rattle.std.specs.Prelude.{false, List, [], ◌∷◌, length, Option, Some, None, slice_get}
-use Rattle.std.specs.Prelude.{if◌then◌else◌, refl}
+use Rattle.std.specs.Prelude.{◌≡◌, ◌<◌, ◌≤◌, ◌+◌, ◌*◌, ◌-◌, ◌==◌, ℕ, zero, suc, Bool, true, false}
+use Rattle.std.specs.Prelude.{List, [], ◌∷◌, length, Option, Some, None, slice_get, if◌then◌else◌}
+use Rattle.std.specs.Prelude.{refl}
 use Rattle.std.proofs.Common.{arith, sym, ap, subst, ◌∙◌, inl, inr, add-one, rules}
 use Rattle.std.proofs.lemmas.Bool.{eqb-true}
+use Rattle.pair_closure.specs.Reached.{IsEachOnce}
 use Rattle.facts.specs.declared.fact.Fact.{Fact}
 use Rattle.facts.specs.declared.fact.Fact.TheVariants as fact
 use Rattle.facts.specs.declared.instance.Instance.{Instance}
 use Rattle.facts.specs.Order.{slot_of}
-use Rattle.saturate.specs.theorem_list.Concludes.{concludes}
-use Rattle.pair_closure.specs.Reached.{IsEachOnce}
-use Rattle.saturate.specs.derivation.Derivations.{At}
-use Rattle.saturate.specs.derivation.Lists.{IsOnTargetList}
-use Rattle.saturate.specs.derivation.Parts.{conclusion_reads}
-use Rattle.saturate.specs.rule_universe.Worlds.{World}
-use Rattle.saturate.specs.rule_universe.Places.{IsPlace}
+use Rattle.theorem_list.specs.Concludes.{concludes}
+use Rattle.derivation.specs.Derivations.{At}
+use Rattle.derivation.specs.Lists.{IsOnTargetList}
+use Rattle.derivation.specs.Parts.{conclusion_reads}
+use Rattle.rule_universe.specs.Worlds.{World}
+use Rattle.rule_universe.specs.Places.{IsPlace}
+use Rattle.rule_universe.specs.Sizes.{beyond_four}
 use Rattle.box_trace.specs.declared.ends.Found.{Found}
 use Rattle.box_trace.specs.declared.ends.Ends.{Ends}
 use Rattle.box_trace.specs.Tables.{row_of}
-use Rattle.saturate.specs.rule_universe.Sizes.{beyond_four}
 use Rattle.box_trace.specs.Rounds.{beyond_in}
 use Rattle.box_trace.specs.Logs.{more_by}
 use Rattle.box_trace.specs.Scans.{IsConclusion, AreEndsOf}

@@ -5,45 +5,45 @@ use Rattle.std.proofs.Common.{sym, ◌∙◌, ap, subst, inl, inr, arith}
 use Rattle.std.proofs.lemmas.List.{map-append}
 use Rattle.std.proofs.lemmas.List.Elements.{Contains-push, Contains-push_cases}
 use Rattle.std.proofs.lemmas.List.Elements.{Contains-append_left}
+use Rattle.pair_closure.specs.Reached.{IsEachOnce}
 use Rattle.facts.specs.declared.fact.Fact.{Fact}
 use Rattle.facts.specs.declared.fact.Slot.{Slot}
 use Rattle.facts.specs.declared.fact.Fact.TheVariants as fact
 use Rattle.facts.specs.declared.fact.Slot.TheVariants as slot
 use Rattle.facts.specs.declared.instance.Instance.{Instance}
 use Rattle.facts.specs.Order.{slot_of, IsStronger}
-use Rattle.saturate.specs.theorem_list.Concludes.{concludes}
-use Rattle.pair_closure.specs.Reached.{IsEachOnce}
-use Rattle.saturate.specs.derivation.Derivations.{At}
-use Rattle.saturate.specs.derivation.Lists.{IsOnTargetList}
-use Rattle.saturate.specs.derivation.Rounds.{IsProper, Improves, IsAhead, IsSame, AllSeen}
-use Rattle.saturate.specs.derivation.Changes.{IsListed}
-use Rattle.saturate.specs.derivation.Parts.{some_same, none_some, slot_cases, void_alone}
-use Rattle.saturate.specs.derivation.Steps.{improved_slot, improved_stronger, old_no_void}
-use Rattle.saturate.specs.derivation.Ahead.{ahead_begin, ahead_step, ahead_void}
-use Rattle.saturate.specs.rule_universe.declared.placed.Placed.{Placed}
-use Rattle.saturate.specs.rule_universe.Worlds.{World}
-use Rattle.saturate.specs.rule_universe.Placed.{slots_of, IsPlaced}
+use Rattle.facts.specs.CommonParts.{at_option, void_is}
+use Rattle.theorem_list.specs.Concludes.{concludes}
+use Rattle.derivation.specs.Derivations.{At}
+use Rattle.derivation.specs.Lists.{IsOnTargetList}
+use Rattle.derivation.specs.Rounds.{IsProper, Improves, IsAhead, IsSame, AllSeen}
+use Rattle.derivation.specs.Changes.{IsListed}
+use Rattle.derivation.specs.Parts.{some_same, none_some, slot_cases, void_alone}
+use Rattle.derivation.specs.Steps.{improved_slot, improved_stronger, old_no_void}
+use Rattle.derivation.specs.Ahead.{ahead_begin, ahead_step, ahead_void}
+use Rattle.rule_universe.specs.declared.placed.Placed.{Placed}
+use Rattle.rule_universe.specs.Worlds.{World}
+use Rattle.rule_universe.specs.Placed.{slots_of, IsPlaced}
+use Rattle.rule_universe.specs.Sizes.{beyond_four}
+use Rattle.rule_universe.specs.OnePlace.{slot_once}
 use Rattle.saturate.specs.Universes.{setting_of}
+use Rattle.tree_certificates.specs.Sections.{behind, ArePlaces}
+use Rattle.tree_certificates.specs.Writing.{IsWritable}
 use Rattle.box_trace.specs.declared.known.Known.{Known}
 use Rattle.box_trace.specs.declared.log.Log.{Log}
 use Rattle.box_trace.specs.declared.ends.Found.{Found}
 use Rattle.box_trace.specs.declared.ends.Ends.{Ends}
-use Rattle.tree_certificates.specs.Sections.{behind, ArePlaces}
-use Rattle.tree_certificates.specs.Writing.{IsWritable}
 use Rattle.box_trace.specs.Tables.{known_at, place_in, HasRows}
 use Rattle.box_trace.specs.Scans.{IsConclusion, ends_in, AreEndsOf, IsWide, most_for}
-use Rattle.saturate.specs.rule_universe.Sizes.{beyond_four}
 use Rattle.box_trace.specs.Rounds.{AddsSteps}
 use Rattle.box_trace.specs.Logs.{Comes, CanCite, GoesOnFrom, IsLonger, IsComeBy, IsSlotWritten}
 use Rattle.box_trace.specs.Logs.{IsRound, more_by}
-use Rattle.saturate.specs.rule_universe.OnePlace.{slot_once}
 use Rattle.box_trace.proofs.Rows.{same_known, same_places}
 use Rattle.box_trace.proofs.Added.{adds_both, adds_one, adds_slack}
 use Rattle.box_trace.proofs.Beyond.{beyond_below, beyond_next, beyond_both, beyond_one}
 use Rattle.box_trace.proofs.Logged.{comes_improves, comes_rows, comes_first, comes_few}
 use Rattle.box_trace.proofs.Logged.{instance_goes_on}
 use Rattle.box_trace.proofs.Scanned.{IsWritten, written_one, written_both, wide_cases}
-use Rattle.facts.specs.CommonParts.{at_option, void_is}
 
 module _ (u : World) (now : Known) where
   -- One conclusion came.

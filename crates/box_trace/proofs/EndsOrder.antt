@@ -4,11 +4,11 @@ use Rattle.std.specs.Prelude.{◌≡◌, ℤ, pos, negsuc, ◌≤ℤ◌, Bool, t
 use Rattle.std.specs.Prelude.{refl}
 use Rattle.std.proofs.Common.{◌∙◌, arith, rules}
 use Rattle.std.proofs.lemmas.Int.{ints}
-use Rattle.dyadic.specs.Extremes.{BoundLe-trans, BoundLe-refl}
-use Rattle.dyadic.specs.Order.{le_bound, bound_total}
-use Rattle.dyadic.specs.Compared.{BoundLe_in}
-use Rattle.fx_model.specs.Grid.{Bound}
+use Rattle.fx_model.specs.Grid.{le_bound, Bound}
 use Rattle.fx_model.specs.Enclosure.{BoundLe}
+use Rattle.dyadic.specs.Extremes.{BoundLe-trans, BoundLe-refl}
+use Rattle.dyadic.specs.Order.{bound_total}
+use Rattle.dyadic.specs.Compared.{BoundLe_in}
 use Rattle.interval.specs.declared.interval.Interval.{Interval}
 use Rattle.interval.specs.Intervals.{range_of}
 use Rattle.facts.specs.declared.relative.RelativeError.{RelativeError}

@@ -1,18 +1,18 @@
 -- A log in a round, and rounds after one another.
-use Rattle.std.specs.Prelude.{◌≡◌, ◌+◌, ◌*◌, ◌↔◌, ℕ, zero, suc, Bool, true, false, List}
-use Rattle.std.specs.Prelude.{Some, IsTrue, slice_get, refl}
+use Rattle.std.specs.Prelude.{◌≡◌, ◌+◌, ◌*◌, ◌↔◌, ℕ, zero, suc, Bool, true, false, List, Some}
+use Rattle.std.specs.Prelude.{IsTrue, slice_get, refl}
 use Rattle.std.proofs.Common.{sym, subst, arith}
 use Rattle.facts.specs.declared.fact.Fact.{Fact}
 use Rattle.facts.specs.declared.fact.Fact.TheVariants as fact
 use Rattle.facts.specs.declared.fact.Slot.TheVariants as slot
 use Rattle.facts.specs.declared.instance.Instance.{Instance}
-use Rattle.saturate.specs.theorem_list.Concludes.{concludes}
-use Rattle.saturate.specs.derivation.Derivations.{At, Beats}
-use Rattle.saturate.specs.derivation.Rounds.{conclusion, IsAhead, IsProper, AllSeen}
-use Rattle.saturate.specs.derivation.Changes.{IsListed}
-use Rattle.saturate.specs.rule_universe.declared.placed.Placed.{Placed}
-use Rattle.saturate.specs.rule_universe.Worlds.{World}
-use Rattle.saturate.specs.rule_universe.Placed.{slots_of}
+use Rattle.theorem_list.specs.Concludes.{concludes}
+use Rattle.derivation.specs.Derivations.{At, Beats}
+use Rattle.derivation.specs.Rounds.{conclusion, IsAhead, IsProper, AllSeen}
+use Rattle.derivation.specs.Changes.{IsListed}
+use Rattle.rule_universe.specs.declared.placed.Placed.{Placed}
+use Rattle.rule_universe.specs.Worlds.{World}
+use Rattle.rule_universe.specs.Placed.{slots_of}
 use Rattle.saturate.specs.Universes.{setting_of}
 use Rattle.saturate.specs.Keeping.{IsSaid, IsWhole, HaveCome}
 use Rattle.box_trace.specs.declared.log.Log.{Log}

@@ -2,11 +2,11 @@
 use Rattle.std.specs.Prelude.{◌≡◌, ◌⊎◌, ℕ, List, [], ◌∷◌, Option, Some, None}
 use Rattle.std.specs.Borrow.{Bor}
 use Rattle.std.proofs.Common.{sym, subst, inl, inr}
-use Rattle.saturate.specs.derivation.Known.{Piece, IsTableAt}
+use Rattle.derivation.specs.Known.{Piece, IsTableAt}
+use Rattle.rule_universe.specs.Worlds.{World}
+use Rattle.saturate.specs.Universes.{setting_of}
 use Rattle.box_trace.specs.declared.known.Known.{Known}
 use Rattle.box_trace.specs.Tables.{known_at}
-use Rattle.saturate.specs.rule_universe.Worlds.{World}
-use Rattle.saturate.specs.Universes.{setting_of}
 use Rattle.box_trace.specs.Boxes.{IsBox}
 
 module _ (u : World) (h : ℕ) (piece : Option Piece) (parent : Option (Bor Known))

@@ -1,39 +1,39 @@
 -- A fact that comes to a log keeps it a log: its steps are accepted, and each fact that is known
 -- has its step.
-use Rattle.std.specs.Prelude.{◌≡◌, ◌<◌, ◌≤◌, ◌+◌, ℕ, List, [], ◌∷◌, length}
-use Rattle.std.specs.Prelude.{Option, Some, slice_get, map, refl}
+use Rattle.std.specs.Prelude.{◌≡◌, ◌<◌, ◌≤◌, ◌+◌, ℕ, List, [], ◌∷◌, length, Option, Some, slice_get}
+use Rattle.std.specs.Prelude.{map, refl}
 use Rattle.std.proofs.Common.{sym, ◌∙◌, ap, subst, inl, inr, arith}
 use Rattle.std.proofs.lemmas.List.{length-append}
 use Rattle.facts.specs.declared.fact.Fact.{Fact}
 use Rattle.facts.specs.declared.fact.Slot.{Slot}
 use Rattle.facts.specs.declared.instance.Instance.{Instance}
 use Rattle.facts.specs.Order.{slot_of, IsStronger}
-use Rattle.saturate.specs.theorem_list.Concludes.{concludes}
-use Rattle.saturate.specs.derivation.Derivations.{At}
-use Rattle.saturate.specs.derivation.Rounds.{IsProper, Reads, conclusion, IsKept, Improves}
-use Rattle.saturate.specs.derivation.Parts.{some_same, slot_cases, conclusion_reads}
-use Rattle.saturate.specs.derivation.Steps.{improved_proper}
-use Rattle.saturate.specs.derivation.Exists.{joined, with_fact-improves}
-use Rattle.tree_certificates.specs.cert_bytes.declared.item.StepRow.{StepRow}
-use Rattle.tree_certificates.specs.cert_bytes.Certificates.{IsCounted, IsShort}
-use Rattle.tree_certificates.specs.cert_checker.Open.{Numbered, with_step}
-use Rattle.tree_certificates.specs.cert_checker.declared.given.Given.{Given}
-use Rattle.tree_certificates.specs.cert_checker.Given.{given_number, given_low}
-use Rattle.tree_certificates.specs.cert_checker.Steps.{step_fact, step_facts, gives, gives_by}
-use Rattle.tree_certificates.specs.cert_checker.Steps.{met_with, IsEnough, IsConcluded, target_of}
-use Rattle.saturate.specs.rule_universe.Worlds.{World}
+use Rattle.theorem_list.specs.Concludes.{concludes}
+use Rattle.derivation.specs.Derivations.{At}
+use Rattle.derivation.specs.Rounds.{IsProper, Reads, conclusion, IsKept, Improves}
+use Rattle.derivation.specs.Parts.{some_same, slot_cases, conclusion_reads}
+use Rattle.derivation.specs.Steps.{improved_proper}
+use Rattle.derivation.specs.Exists.{joined, with_fact-improves}
+use Rattle.rule_universe.specs.Worlds.{World}
 use Rattle.saturate.specs.Universes.{setting_of}
-use Rattle.box_trace.specs.declared.known.Known.{Known}
-use Rattle.box_trace.specs.declared.log.Log.{Log}
+use Rattle.cert_bytes.specs.declared.item.StepRow.{StepRow}
+use Rattle.cert_bytes.specs.Certificates.{IsCounted, IsShort}
+use Rattle.cert_checker.specs.Open.{Numbered, with_step}
+use Rattle.cert_checker.specs.declared.given.Given.{Given}
+use Rattle.cert_checker.specs.Given.{given_number, given_low}
+use Rattle.cert_checker.specs.Steps.{step_fact, step_facts, gives, gives_by, met_with, IsEnough}
+use Rattle.cert_checker.specs.Steps.{IsConcluded, target_of}
 use Rattle.tree_certificates.specs.Sections.{behind, AreAccepted, ArePlaces}
 use Rattle.tree_certificates.specs.Writing.{IsSlotKnown, IsWritable, givens_of}
 use Rattle.tree_certificates.specs.Traces.{HaveFields}
-use Rattle.box_trace.specs.Tables.{fact_of, number_or, cited_at, known_at, place_in, HasRows}
-use Rattle.box_trace.specs.Logs.{kept_in, IsStep, Comes, InSection, CanCite, GoesOnFrom}
 use Rattle.tree_certificates.specs.Cited.{step_kept, step_new, below_behind, behind_both}
 use Rattle.tree_certificates.specs.Cited.{accepted_both, premises_found, fields_more, mapped}
 use Rattle.tree_certificates.specs.Cited.{reads_length}
 use Rattle.tree_certificates.specs.Coming.{aims, enough, coming_accepted, met_by, coming}
+use Rattle.box_trace.specs.declared.known.Known.{Known}
+use Rattle.box_trace.specs.declared.log.Log.{Log}
+use Rattle.box_trace.specs.Tables.{fact_of, number_or, cited_at, known_at, place_in, HasRows}
+use Rattle.box_trace.specs.Logs.{kept_in, IsStep, Comes, InSection, CanCite, GoesOnFrom}
 
 -- ---- what is given
 -- c comes by what is given, which takes no premises.

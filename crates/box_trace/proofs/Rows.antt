@@ -5,22 +5,22 @@ use Rattle.std.specs.Prelude.{if◌then◌else◌, nat_lt, refl}
 use Rattle.std.proofs.Common.{arith, sym, ap, ◌∙◌, subst, rules}
 use Rattle.std.proofs.lemmas.Bool.{and_parts}
 use Rattle.fx_model.specs.declared.ExprId.{ExprId}
+use Rattle.pair_closure.specs.Closure.{Pair}
+use Rattle.pair_closure.specs.Reached.{IsEachOnce}
 use Rattle.facts.specs.declared.fact.Fact.{Fact}
 use Rattle.facts.specs.declared.fact.Slot.{Slot}
 use Rattle.facts.specs.declared.fact.Slot.TheVariants as slot
 use Rattle.facts.specs.Order.{is_same}
 use Rattle.facts.specs.CommonParts.{expr_same, at_option}
-use Rattle.pair_closure.specs.Closure.{Pair}
-use Rattle.pair_closure.specs.Reached.{IsEachOnce}
-use Rattle.saturate.specs.derivation.Rounds.{IsProper}
-use Rattle.saturate.specs.rule_universe.Worlds.{World}
-use Rattle.saturate.specs.rule_universe.Places.{IsPlace, block_place}
+use Rattle.derivation.specs.Rounds.{IsProper}
+use Rattle.rule_universe.specs.Worlds.{World}
+use Rattle.rule_universe.specs.Places.{IsPlace, block_place}
+use Rattle.rule_universe.specs.OnePlace.{slot_once}
+use Rattle.saturate.specs.Lists.{get_set_here, get_set_there}
 use Rattle.box_trace.specs.declared.known.Cited.{Cited}
 use Rattle.box_trace.specs.declared.known.Known.{Known}
 use Rattle.box_trace.specs.Tables.{one_later, pair_number, behind_blocks, row_of, flat, row_in}
 use Rattle.box_trace.specs.Tables.{fact_of, number_or, cited_at, known_at, place_in, HasRows}
-use Rattle.saturate.specs.rule_universe.OnePlace.{slot_once}
-use Rattle.saturate.specs.Lists.{get_set_here, get_set_there}
 
 -- ---- blocks
 below_true : (a n : ℕ) → a < n → nat_lt a n ≡ true

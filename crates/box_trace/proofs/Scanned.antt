@@ -1,8 +1,8 @@
 -- One conclusion more of a round, and what it comes to when all were seen and written.
+use lib.ListN.{replicate}
 use Rattle.std.specs.Prelude.{◌≡◌, ◌≢◌, ◌⊎◌, ◌<◌, ◌≤◌, ◌+◌, ◌*◌, ℕ, zero, suc, List, length, Option}
 use Rattle.std.specs.Prelude.{Some, None, slice_get, refl}
 use Rattle.std.proofs.Common.{sym, ◌∙◌, ap, subst, inl, inr, arith}
-use lib.ListN.{replicate}
 use Rattle.std.proofs.lemmas.Bool.{cases_lt}
 use Rattle.std.proofs.lemmas.Bool.Decides.{eqb_tells}
 use Rattle.std.proofs.lemmas.Option.{slice_get_within}
@@ -11,23 +11,23 @@ use Rattle.facts.specs.declared.fact.Fact.TheVariants as fact
 use Rattle.facts.specs.declared.instance.Instance.{Instance}
 use Rattle.facts.specs.Order.{slot_of}
 use Rattle.facts.specs.Laws.{IsStronger-trans}
-use Rattle.saturate.specs.theorem_list.Concludes.{concludes}
-use Rattle.saturate.specs.derivation.Derivations.{At, Beats}
-use Rattle.saturate.specs.derivation.Rounds.{conclusion, Improves, IsAhead, AllSeen}
-use Rattle.saturate.specs.derivation.Parts.{some_same}
-use Rattle.saturate.specs.derivation.Ahead.{ahead_fewer, ahead_step}
-use Rattle.saturate.specs.rule_universe.Worlds.{World}
-use Rattle.saturate.specs.rule_universe.Places.{IsPlace}
+use Rattle.theorem_list.specs.Concludes.{concludes}
+use Rattle.derivation.specs.Derivations.{At, Beats}
+use Rattle.derivation.specs.Rounds.{conclusion, Improves, IsAhead, AllSeen}
+use Rattle.derivation.specs.Parts.{some_same}
+use Rattle.derivation.specs.Ahead.{ahead_fewer, ahead_step}
+use Rattle.rule_universe.specs.Worlds.{World}
+use Rattle.rule_universe.specs.Places.{IsPlace}
+use Rattle.rule_universe.specs.OnePlace.{slot_once}
 use Rattle.saturate.specs.Universes.{setting_of}
+use Rattle.saturate.specs.Lists.{get_set_here, get_set_there}
 use Rattle.box_trace.specs.declared.ends.Found.{Found}
 use Rattle.box_trace.specs.declared.ends.Ends.{Ends}
 use Rattle.box_trace.specs.Ends.{IsLowBy, IsHighBy}
 use Rattle.box_trace.specs.Scans.{IsConclusion, held, ends_in, IsWith, IsNoted, AreEndsOf, HasEnds}
 use Rattle.box_trace.specs.Scans.{IsScanned, IsWide}
-use Rattle.saturate.specs.rule_universe.OnePlace.{slot_once}
 use Rattle.box_trace.proofs.Rounded.{ends_beat}
 use Rattle.box_trace.proofs.EndsOrder.{low_refl, high_refl}
-use Rattle.saturate.specs.Lists.{get_set_here, get_set_there}
 
 none_at : {X : Type 0} (n p : ℕ) (v : X)
     → (slice_get (replicate n v) p ≡ Some v) ⊎ (slice_get (replicate n v) p ≡ None)

@@ -1,19 +1,19 @@
 -- How many bytes the steps of a box and the item behind them have.
-use Rattle.std.specs.Prelude.{◌≡◌, ◌≤◌, ◌+◌, ◌*◌, ℕ, zero, suc, List, [], ◌∷◌, ◌++◌, length}
-use Rattle.std.specs.Prelude.{map, Option, Some, None, refl}
+use Rattle.std.specs.Prelude.{◌≡◌, ◌≤◌, ◌+◌, ◌*◌, ℕ, zero, suc, List, [], ◌∷◌, ◌++◌, length, map}
+use Rattle.std.specs.Prelude.{Option, Some, None, refl}
 use Rattle.std.specs.Borrow.{Bor}
 use Rattle.std.specs.List.{AllByRecursion}
 use Rattle.std.proofs.Common.{arith, ap}
 use Rattle.std.proofs.lemmas.List.{length-append}
 use Rattle.fx_model.specs.declared.Node.{Node}
 use Rattle.fx_model.specs.declared.Node.TheVariants.{Var, Lit, Neg, Add, Sub, Mul, Div, Abs, Round}
-use Rattle.tree_certificates.specs.cert_bytes.declared.item.Item.{Item}
-use Rattle.tree_certificates.specs.cert_bytes.declared.item.Item.TheVariants as item
-use Rattle.tree_certificates.specs.cert_bytes.declared.item.StepRow.{StepRow}
-use Rattle.tree_certificates.specs.cert_bytes.Sizes.{most_bytes, most_bytes_in}
-use Rattle.saturate.specs.rule_universe.Worlds.{World}
+use Rattle.rule_universe.specs.Worlds.{World}
+use Rattle.rule_universe.specs.Sizes.{IsSmall}
+use Rattle.cert_bytes.specs.declared.item.Item.{Item}
+use Rattle.cert_bytes.specs.declared.item.Item.TheVariants as item
+use Rattle.cert_bytes.specs.declared.item.StepRow.{StepRow}
+use Rattle.cert_bytes.specs.Sizes.{most_bytes, most_bytes_in}
 use Rattle.box_trace.specs.declared.known.Known.{Known}
-use Rattle.saturate.specs.rule_universe.Sizes.{IsSmall}
 use Rattle.box_trace.specs.Rounds.{premises_in, premises_a_round, IsGivenStep, AreRounds}
 use Rattle.box_trace.specs.Rounds.{one_if_variable, variable_count, most_given, IsOfParent}
 use Rattle.box_trace.specs.Short.{EndsBox, BoxesAreShort}

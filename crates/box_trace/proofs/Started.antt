@@ -1,6 +1,6 @@
 -- What a box begins with, in each section where its steps may stand.
-use Rattle.std.specs.Prelude.{◌≡◌, ◌<◌, ◌≤◌, ◌+◌, ℕ, [], length, Option, Some, None}
-use Rattle.std.specs.Prelude.{slice_get, refl}
+use Rattle.std.specs.Prelude.{◌≡◌, ◌<◌, ◌≤◌, ◌+◌, ℕ, [], length, Option, Some, None, slice_get}
+use Rattle.std.specs.Prelude.{refl}
 use Rattle.std.proofs.Common.{sym, ◌∙◌, ap, subst, arith}
 use Rattle.std.proofs.lemmas.Option.{slice_get_within}
 use Rattle.fx_model.specs.declared.ExprId.{ExprId}
@@ -11,33 +11,32 @@ use Rattle.facts.specs.declared.fact.Slot.{Slot}
 use Rattle.facts.specs.declared.fact.Fact.TheVariants as fact
 use Rattle.facts.specs.declared.fact.Slot.TheVariants as slot
 use Rattle.facts.specs.Order.{slot_of}
-use Rattle.saturate.specs.derivation.Derivations.{At}
-use Rattle.saturate.specs.derivation.Known.{Piece}
-use Rattle.saturate.specs.derivation.Rounds.{IsBlank}
-use Rattle.saturate.specs.derivation.Parts.{none_some}
-use Rattle.saturate.specs.derivation.Exists.{joined}
-use Rattle.tree_certificates.specs.cert_bytes.Certificates.{IsShort}
-use Rattle.tree_certificates.specs.cert_checker.declared.given.Given.{Given}
-use Rattle.tree_certificates.specs.cert_checker.declared.given.Given.TheVariants as given
-use Rattle.tree_certificates.specs.cert_checker.Given.{given_number, given_short}
-use Rattle.tree_certificates.specs.cert_checker.Open.{Numbered}
-use Rattle.tree_certificates.specs.cert_checker.Steps.{met_with, IsEnough, whole_line}
-use Rattle.tree_certificates.specs.cert_checker.Steps.{variable_fact}
-use Rattle.saturate.specs.rule_universe.Worlds.{World}
-use Rattle.saturate.specs.rule_universe.Places.{place_count}
+use Rattle.derivation.specs.Derivations.{At}
+use Rattle.derivation.specs.Known.{Piece}
+use Rattle.derivation.specs.Rounds.{IsBlank}
+use Rattle.derivation.specs.Parts.{none_some}
+use Rattle.derivation.specs.Exists.{joined}
+use Rattle.rule_universe.specs.Worlds.{World}
+use Rattle.rule_universe.specs.Places.{place_count}
 use Rattle.saturate.specs.Universes.{setting_of}
-use Rattle.box_trace.specs.declared.known.Known.{Known}
-use Rattle.box_trace.specs.declared.log.Log.{Log}
+use Rattle.cert_bytes.specs.Certificates.{IsShort}
+use Rattle.cert_checker.specs.declared.given.Given.{Given}
+use Rattle.cert_checker.specs.declared.given.Given.TheVariants as given
+use Rattle.cert_checker.specs.Given.{given_number, given_short}
+use Rattle.cert_checker.specs.Open.{Numbered}
+use Rattle.cert_checker.specs.Steps.{met_with, IsEnough, whole_line, variable_fact}
 use Rattle.tree_certificates.specs.Sections.{behind, AreAccepted, ArePlaces}
 use Rattle.tree_certificates.specs.Writing.{IsSlotKnown, IsWritable, givens_of}
 use Rattle.tree_certificates.specs.Traces.{IsCutTo, HaveFields}
+use Rattle.tree_certificates.specs.Coming.{enough, met_by_interval, met_by, line_joined}
+use Rattle.box_trace.specs.declared.known.Known.{Known}
+use Rattle.box_trace.specs.declared.log.Log.{Log}
 use Rattle.box_trace.specs.Tables.{known_at, place_in, HasRows}
 use Rattle.box_trace.specs.Logs.{InSection}
 use Rattle.box_trace.specs.Boxes.{IsSectionBelow, BeginsWithin, BeginsBelow}
 use Rattle.box_trace.proofs.Rows.{same_known, same_places, same_rows}
 use Rattle.box_trace.proofs.Logged.{ComesGiven, Suffices, comes_rows, comes_first, comes_few}
 use Rattle.box_trace.proofs.Logged.{comes_section}
-use Rattle.tree_certificates.specs.Coming.{enough, met_by_interval, met_by, line_joined}
 
 -- rows of nothing
 pub blank_rows : (u : World) (k : Known)

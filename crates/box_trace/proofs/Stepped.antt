@@ -2,23 +2,23 @@
 use Rattle.std.specs.Prelude.{◌≡◌, ◌<◌, ◌+◌, ℕ, List, [], ◌∷◌, ◌++◌, length, Option, Some}
 use Rattle.std.specs.Prelude.{slice_set, refl}
 use Rattle.std.proofs.Common.{sym, ◌∙◌, ap, subst, inl, inr, arith, length-set}
+use Rattle.pair_closure.specs.Reached.{IsEachOnce}
 use Rattle.facts.specs.declared.fact.Fact.{Fact}
 use Rattle.facts.specs.Order.{slot_of, IsStronger, meet_of}
 use Rattle.facts.specs.Laws.{IsStronger-slot}
-use Rattle.pair_closure.specs.Reached.{IsEachOnce}
-use Rattle.saturate.specs.derivation.Steps.{improved_stronger}
-use Rattle.saturate.specs.derivation.Exists.{joined, or_else, with_fact, with_fact-improves}
-use Rattle.saturate.specs.rule_universe.Worlds.{World, HasSlot}
-use Rattle.saturate.specs.rule_universe.Places.{IsPlace}
+use Rattle.facts.specs.CommonParts.{void_is}
+use Rattle.derivation.specs.Steps.{improved_stronger}
+use Rattle.derivation.specs.Exists.{joined, or_else, with_fact, with_fact-improves}
+use Rattle.rule_universe.specs.Worlds.{World, HasSlot}
+use Rattle.rule_universe.specs.Places.{IsPlace}
+use Rattle.rule_universe.specs.OnePlace.{place_slot, place_within}
+use Rattle.tree_certificates.specs.Coming.{with_by-some, with_by}
 use Rattle.box_trace.specs.declared.known.Cited.{Cited}
 use Rattle.box_trace.specs.declared.log.Log.{Log}
 use Rattle.box_trace.specs.Tables.{row_in, fact_of, number_or, cited_at, known_at, place_in}
 use Rattle.box_trace.specs.Tables.{HasRows}
 use Rattle.box_trace.specs.Logs.{kept_in, Comes}
-use Rattle.saturate.specs.rule_universe.OnePlace.{place_slot, place_within}
 use Rattle.box_trace.proofs.Rows.{read_at, put_here, put_there}
-use Rattle.tree_certificates.specs.Coming.{with_by-some, with_by}
-use Rattle.facts.specs.CommonParts.{void_is}
 
 -- ---- what is kept
 pub met_joined : (g c k : Fact) → meet_of g c ≡ Some k → k ≡ joined (Some g) c

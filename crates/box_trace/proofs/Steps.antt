@@ -2,9 +2,9 @@
 use Rattle.std.specs.Prelude.{◌≡◌, ◌<◌, ◌⊎◌, ℕ, List, length, Option, Some, None}
 use Rattle.std.specs.Borrow.{Bor}
 use Rattle.std.proofs.Common.{sym, ◌∙◌, subst, inl, inr}
-use Rattle.saturate.specs.derivation.Known.{Piece}
-use Rattle.tree_certificates.specs.cert_bytes.declared.item.StepRow.{StepRow}
-use Rattle.saturate.specs.rule_universe.Worlds.{World}
+use Rattle.derivation.specs.Known.{Piece}
+use Rattle.rule_universe.specs.Worlds.{World}
+use Rattle.cert_bytes.specs.declared.item.StepRow.{StepRow}
 use Rattle.box_trace.specs.declared.known.Known.{Known}
 use Rattle.box_trace.specs.declared.log.Log.{Log}
 use Rattle.box_trace.specs.Tables.{HasRows}

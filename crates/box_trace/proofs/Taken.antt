@@ -3,26 +3,26 @@ use Rattle.std.specs.Prelude.{◌≡◌, ◌<◌, ◌+◌, ◌*◌, ℕ, true, L
 use Rattle.std.specs.Prelude.{refl}
 use Rattle.std.proofs.Common.{sym, ◌∙◌, ap, subst, inl, inr, arith}
 use Rattle.std.proofs.lemmas.Option.{slice_get_within}
+use Rattle.pair_closure.specs.Reached.{IsEachOnce}
 use Rattle.facts.specs.declared.fact.Fact.{Fact}
 use Rattle.facts.specs.declared.fact.Slot.{Slot}
 use Rattle.facts.specs.declared.fact.Fact.TheVariants as fact
 use Rattle.facts.specs.Order.{slot_of}
-use Rattle.saturate.specs.theorem_list.Concludes.{concludes}
-use Rattle.pair_closure.specs.Reached.{IsEachOnce}
-use Rattle.saturate.specs.derivation.Derivations.{Beats}
-use Rattle.saturate.specs.derivation.Lists.{IsOnTargetList}
-use Rattle.saturate.specs.derivation.Rounds.{conclusion}
-use Rattle.saturate.specs.derivation.Parts.{some_same, conclusion_reads}
-use Rattle.saturate.specs.rule_universe.declared.placed.Placed.{Placed}
-use Rattle.saturate.specs.rule_universe.Worlds.{World}
-use Rattle.saturate.specs.rule_universe.Places.{IsPlace}
-use Rattle.saturate.specs.rule_universe.Placed.{slots_of}
+use Rattle.theorem_list.specs.Concludes.{concludes}
+use Rattle.derivation.specs.Derivations.{Beats}
+use Rattle.derivation.specs.Lists.{IsOnTargetList}
+use Rattle.derivation.specs.Rounds.{conclusion}
+use Rattle.derivation.specs.Parts.{some_same, conclusion_reads}
+use Rattle.rule_universe.specs.declared.placed.Placed.{Placed}
+use Rattle.rule_universe.specs.Worlds.{World}
+use Rattle.rule_universe.specs.Places.{IsPlace}
+use Rattle.rule_universe.specs.Placed.{slots_of}
+use Rattle.saturate.specs.Keeping.{IsConcludedBy}
 use Rattle.box_trace.specs.declared.known.Known.{Known}
 use Rattle.box_trace.specs.declared.ends.Found.{Found}
 use Rattle.box_trace.specs.declared.ends.Ends.{Ends}
 use Rattle.box_trace.specs.Tables.{row_in, fact_of, known_at}
 use Rattle.box_trace.specs.Scans.{IsBeaten, IsNoted, IsScanned}
-use Rattle.saturate.specs.Keeping.{IsConcludedBy}
 use Rattle.box_trace.proofs.Rows.{read_at}
 use Rattle.box_trace.proofs.Scanned.{scanned_beaten, scanned_noted}
 

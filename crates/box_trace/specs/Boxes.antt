@@ -2,16 +2,16 @@
 use Rattle.std.specs.Prelude.{◌≡◌, ◌<◌, ◌≤◌, ◌+◌, ◌*◌, ℕ, List, [], ◌∷◌, length, Option, Some, None}
 use Rattle.std.specs.Borrow.{Bor}
 use Rattle.facts.specs.declared.fact.Fact.{Fact}
-use Rattle.saturate.specs.derivation.Known.{Piece, IsTableAt}
-use Rattle.tree_certificates.specs.cert_checker.Open.{Numbered}
-use Rattle.saturate.specs.rule_universe.Worlds.{World}
+use Rattle.derivation.specs.Known.{Piece, IsTableAt}
+use Rattle.rule_universe.specs.Worlds.{World}
 use Rattle.saturate.specs.Universes.{setting_of}
-use Rattle.box_trace.specs.declared.known.Known.{Known}
-use Rattle.box_trace.specs.declared.log.Log.{Log}
-use Rattle.box_trace.specs.declared.tracing.Traced.{Traced}
+use Rattle.cert_checker.specs.Open.{Numbered}
 use Rattle.tree_certificates.specs.Sections.{ArePlaces, AreBelow, IsTraced}
 use Rattle.tree_certificates.specs.Writing.{IsWritable, givens_of}
 use Rattle.tree_certificates.specs.Traces.{HaveFields, IsCutTo}
+use Rattle.box_trace.specs.declared.known.Known.{Known}
+use Rattle.box_trace.specs.declared.log.Log.{Log}
+use Rattle.box_trace.specs.declared.tracing.Traced.{Traced}
 use Rattle.box_trace.specs.Tables.{known_at, place_in, HasRows}
 
 -- The box is the root, and nothing is given; or the last cut's piece and what is known at its

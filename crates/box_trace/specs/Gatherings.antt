@@ -1,8 +1,8 @@
 -- A log in a round.
 use Rattle.std.specs.Prelude.{◌≡◌, ◌<◌, ◌+◌, ◌*◌, ◌^◌, ℕ, List, None, length}
-use Rattle.saturate.specs.rule_universe.Worlds.{World}
-use Rattle.saturate.specs.rule_universe.Places.{place_count}
-use Rattle.saturate.specs.rule_universe.declared.placed.Placed.{Placed}
+use Rattle.rule_universe.specs.Worlds.{World}
+use Rattle.rule_universe.specs.Places.{place_count}
+use Rattle.rule_universe.specs.declared.placed.Placed.{Placed}
 use Rattle.box_trace.specs.declared.known.Known.{Known}
 use Rattle.box_trace.specs.declared.gathering.Gathering.{Gathering}
 use Rattle.box_trace.specs.Tables.{known_at, HasRows}

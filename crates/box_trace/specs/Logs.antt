@@ -5,27 +5,27 @@ use Rattle.facts.specs.declared.fact.Fact.{Fact}
 use Rattle.facts.specs.declared.fact.Slot.{Slot}
 use Rattle.facts.specs.declared.fact.Slot.TheVariants as slot
 use Rattle.facts.specs.Order.{slot_of, IsStronger}
-use Rattle.saturate.specs.derivation.Derivations.{At}
-use Rattle.saturate.specs.derivation.Exists.{joined}
-use Rattle.saturate.specs.derivation.Rounds.{Improves, IsAhead, AllSeen}
-use Rattle.saturate.specs.derivation.Changes.{IsListed}
-use Rattle.tree_certificates.specs.cert_checker.Open.{Numbered}
-use Rattle.saturate.specs.rule_universe.Worlds.{World}
-use Rattle.saturate.specs.rule_universe.declared.placed.Placed.{Placed}
-use Rattle.saturate.specs.rule_universe.Placed.{slots_of, IsPlaced}
+use Rattle.derivation.specs.Derivations.{At}
+use Rattle.derivation.specs.Exists.{joined}
+use Rattle.derivation.specs.Rounds.{Improves, IsAhead, AllSeen}
+use Rattle.derivation.specs.Changes.{IsListed}
+use Rattle.rule_universe.specs.Worlds.{World}
+use Rattle.rule_universe.specs.declared.placed.Placed.{Placed}
+use Rattle.rule_universe.specs.Placed.{slots_of, IsPlaced}
+use Rattle.rule_universe.specs.Sizes.{beyond_four}
 use Rattle.saturate.specs.Universes.{setting_of}
+use Rattle.cert_checker.specs.Open.{Numbered}
+use Rattle.tree_certificates.specs.Sections.{behind, ArePlaces, AreBelow, IsTraced}
+use Rattle.tree_certificates.specs.Writing.{IsWritable, givens_of}
+use Rattle.tree_certificates.specs.Traces.{HaveFields}
+use Rattle.tree_certificates.specs.Coming.{coming}
 use Rattle.box_trace.specs.declared.known.Known.{Known}
 use Rattle.box_trace.specs.declared.log.Log.{Log}
 use Rattle.box_trace.specs.declared.ends.Found.{Found}
 use Rattle.box_trace.specs.declared.ends.Ends.{Ends}
 use Rattle.box_trace.specs.Scans.{IsWide}
-use Rattle.tree_certificates.specs.Sections.{behind, ArePlaces, AreBelow, IsTraced}
-use Rattle.tree_certificates.specs.Writing.{IsWritable, givens_of}
-use Rattle.tree_certificates.specs.Traces.{HaveFields}
 use Rattle.box_trace.specs.Tables.{cited_at, known_at, place_in, HasRows}
-use Rattle.saturate.specs.rule_universe.Sizes.{beyond_four}
 use Rattle.box_trace.specs.Rounds.{beyond_in, AddsSteps}
-use Rattle.tree_certificates.specs.Coming.{coming}
 
 -- ---- one fact comes
 -- what is kept on the slot of c

@@ -5,11 +5,11 @@ use Rattle.facts.specs.declared.fact.Fact.{Fact}
 use Rattle.facts.specs.declared.fact.Fact.TheVariants as fact
 use Rattle.facts.specs.declared.instance.Instance.{Instance}
 use Rattle.facts.specs.Order.{slot_of, IsStronger}
-use Rattle.saturate.specs.theorem_list.Concludes.{concludes}
-use Rattle.saturate.specs.derivation.Derivations.{At, Beats}
-use Rattle.saturate.specs.derivation.Rounds.{conclusion}
-use Rattle.saturate.specs.rule_universe.Worlds.{World}
-use Rattle.saturate.specs.rule_universe.Places.{IsPlace}
+use Rattle.theorem_list.specs.Concludes.{concludes}
+use Rattle.derivation.specs.Derivations.{At, Beats}
+use Rattle.derivation.specs.Rounds.{conclusion}
+use Rattle.rule_universe.specs.Worlds.{World}
+use Rattle.rule_universe.specs.Places.{IsPlace}
 use Rattle.box_trace.specs.declared.known.Cited.{Cited}
 use Rattle.box_trace.specs.declared.ends.Found.{Found}
 use Rattle.box_trace.specs.declared.ends.Ends.{Ends}

@@ -1,12 +1,12 @@
 -- How many bytes a box's own items have.
 use Rattle.std.specs.Prelude.{◌≤◌, ◌^◌, ⊤, ℕ, List, [], ◌∷◌, ◌++◌, length, map, Option}
 use Rattle.std.specs.Borrow.{Bor}
-use Rattle.tree_certificates.specs.cert_bytes.declared.item.Item.{Item}
-use Rattle.tree_certificates.specs.cert_bytes.declared.item.Item.TheVariants as item
-use Rattle.tree_certificates.specs.cert_bytes.declared.item.StepRow.{StepRow}
-use Rattle.tree_certificates.specs.cert_bytes.Sizes.{most_bytes_in}
-use Rattle.saturate.specs.rule_universe.Worlds.{World}
-use Rattle.saturate.specs.rule_universe.Sizes.{IsSmall}
+use Rattle.rule_universe.specs.Worlds.{World}
+use Rattle.rule_universe.specs.Sizes.{IsSmall}
+use Rattle.cert_bytes.specs.declared.item.Item.{Item}
+use Rattle.cert_bytes.specs.declared.item.Item.TheVariants as item
+use Rattle.cert_bytes.specs.declared.item.StepRow.{StepRow}
+use Rattle.cert_bytes.specs.Sizes.{most_bytes_in}
 use Rattle.box_trace.specs.declared.known.Known.{Known}
 use Rattle.box_trace.specs.Rounds.{AreItsRounds}
 

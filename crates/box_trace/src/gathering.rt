@@ -7,7 +7,8 @@ use crate::log::Log;
 use crate::scan::{clear, take};
 use crate::writing::write_gathered;
 use facts::{Fact, Slot};
-use saturate::{Keeps, Placed, Steps, Universe};
+use saturate::{Keeps, Steps};
+use rule_universe::{Placed, Universe};
 use std::alloc::{AllocError, Global};
 use std::sync::ledger::Ledger;
 

@@ -2,15 +2,15 @@
 ghost use Rattle.std.specs.Prelude.{◌≡◌, ◌<◌, ◌↔◌, Some, IsTrue, IfOk, OnOk, length, slice_set};
 ghost use Rattle.facts.specs.declared.fact.Fact.TheVariants as fact;
 ghost use Rattle.facts.specs.declared.fact.Slot.TheVariants as slot;
-ghost use Rattle.saturate.specs.derivation.Rounds.{IsBlank};
-ghost use Rattle.saturate.specs.rule_universe.Worlds.{HasSlot};
-ghost use Rattle.saturate.specs.rule_universe.Places.{place_count};
-ghost use Rattle.saturate.specs.rule_universe.Placed.{IsPlaced};
+ghost use Rattle.derivation.specs.Rounds.{IsBlank};
+ghost use Rattle.rule_universe.specs.Worlds.{HasSlot};
+ghost use Rattle.rule_universe.specs.Places.{place_count};
+ghost use Rattle.rule_universe.specs.Placed.{IsPlaced};
 ghost use Rattle.box_trace.specs.Tables.{row_in, flat, fact_of, number_of, number_or, known_at};
 ghost use Rattle.box_trace.specs.Tables.{step_at, place_in, HasRows};
 
 use facts::{Fact, Slot};
-use saturate::{Placed, Universe};
+use rule_universe::{Placed, Universe};
 use std::alloc::{AllocError, Global};
 
 /// A fact with the number of its step.

@@ -2,9 +2,6 @@
 //! steps, and rounds that write at most two steps for a slot.
 #![tactic(auto)]
 
-// What callers name of the crates below.
-pub use saturate::{Universe, rules_are_lawful};
-pub use tree_certificates::{Subject, certificates_exist, walks_move};
 
 mod ends;
 mod gathering;

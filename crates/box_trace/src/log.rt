@@ -1,10 +1,10 @@
 //! The steps that a box's facts come by.
-ghost use Rattle.tree_certificates.specs.cert_checker.Given.{given_number};
-ghost use Rattle.tree_certificates.specs.Coming.{with_by};
 ghost use Rattle.std.specs.Prelude.{◌≡◌, ◌<◌, ◌+◌, ◌^◌, [], Some, IfNone, IfSome, OnOk, length};
 ghost use Rattle.facts.specs.Order.{slot_of, IsStronger};
-ghost use Rattle.saturate.specs.derivation.Exists.{joined};
-ghost use Rattle.saturate.specs.rule_universe.Places.{IsPlace};
+ghost use Rattle.derivation.specs.Exists.{joined};
+ghost use Rattle.rule_universe.specs.Places.{IsPlace};
+ghost use Rattle.cert_checker.specs.Given.{given_number};
+ghost use Rattle.tree_certificates.specs.Coming.{with_by};
 ghost use Rattle.box_trace.specs.declared.known.Cited.{Cited as Row};
 ghost use Rattle.box_trace.specs.Tables.{fact_of, number_of, number_or, HasRows};
 ghost use Rattle.box_trace.specs.Logs.{Comes};
@@ -12,9 +12,10 @@ ghost use Rattle.box_trace.specs.Logs.{Comes};
 use crate::known::{Cited, Known, number_of};
 use facts::{Fact, meet, slot, stronger};
 use fx_edge::Items;
-use saturate::Universe;
+use rule_universe::Universe;
 use std::alloc::{AllocError, Global};
-use tree_certificates::{Given, StepRow};
+use cert_checker::Given;
+use cert_bytes::StepRow;
 
 /// The steps so far, the first with this number, and what they come to.
 #[derive(Drop)]

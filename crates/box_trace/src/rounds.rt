@@ -1,6 +1,6 @@
 //! Rounds after one another, with their steps: those of `saturate`, over a log.
 ghost use Rattle.std.specs.Prelude.{◌≡◌, ◌<◌, ◌+◌, ◌*◌, ◌^◌, IfOk, length};
-ghost use Rattle.saturate.specs.derivation.Rounds.{IsBestFrom};
+ghost use Rattle.derivation.specs.Rounds.{IsBestFrom};
 ghost use Rattle.saturate.specs.Universes.{setting_of};
 ghost use Rattle.box_trace.specs.Tables.{known_at, HasRows};
 ghost use Rattle.box_trace.specs.Logs.{IsLonger};
@@ -8,7 +8,8 @@ ghost use Rattle.box_trace.specs.Rounds.{HasRounds};
 
 use crate::gathering::Gathering;
 use crate::log::Log;
-use saturate::{Steps, Universe, Work, all_rounds};
+use saturate::{Steps, Work, all_rounds};
+use rule_universe::Universe;
 use std::alloc::{AllocError, Global};
 use std::marker::Brand;
 use std::sync::ledger::{Blank, Ledger};

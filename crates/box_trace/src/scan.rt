@@ -1,11 +1,11 @@
 //! Which conclusions of a round give the ends of a slot's fact, and what their premises are.
-ghost use Rattle.std.specs.Prelude.{◌≡◌, ◌<◌, Some, None, IfOk, OnOk, length};
-ghost use Rattle.std.specs.Prelude.{slice_get, map, replicate, Contains};
+ghost use Rattle.std.specs.Prelude.{◌≡◌, ◌<◌, Some, None, IfOk, OnOk, length, slice_get, map};
+ghost use Rattle.std.specs.Prelude.{replicate, Contains};
 ghost use Rattle.facts.specs.declared.instance.Instance.{Instance as Applied};
-ghost use Rattle.saturate.specs.theorem_list.Concludes.{concludes};
-ghost use Rattle.saturate.specs.rule_universe.declared.placed.Placed.{Placed as Placement};
-ghost use Rattle.saturate.specs.rule_universe.Places.{place_count};
-ghost use Rattle.saturate.specs.rule_universe.Placed.{IsPlaced, slots_of};
+ghost use Rattle.theorem_list.specs.Concludes.{concludes};
+ghost use Rattle.rule_universe.specs.declared.placed.Placed.{Placed as Placement};
+ghost use Rattle.rule_universe.specs.Places.{place_count};
+ghost use Rattle.rule_universe.specs.Placed.{IsPlaced, slots_of};
 ghost use Rattle.saturate.specs.Keeping.{IsConcludedBy};
 ghost use Rattle.box_trace.specs.Tables.{row_in, known_at, place_in};
 ghost use Rattle.box_trace.specs.Scans.{IsBeaten, IsWith, IsNoted, IsVisited};
@@ -13,7 +13,8 @@ ghost use Rattle.box_trace.specs.Scans.{IsBeaten, IsWith, IsNoted, IsVisited};
 use crate::ends::{Ends, Found};
 use crate::known::Known;
 use facts::{Fact, stronger};
-use saturate::{Placed, Universe, instance_at, rules_are_lawful};
+use rule_universe::{Placed, Universe};
+use saturate::{instance_at, rules_are_lawful};
 use std::alloc::{AllocError, Global};
 
 // The steps of these premises.

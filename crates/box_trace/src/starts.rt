@@ -3,9 +3,9 @@ ghost use Rattle.std.specs.Prelude.{◌≡◌, ◌<◌, ◌≤◌, ◌+◌, ◌^
 ghost use Rattle.std.specs.Prelude.{slice_get};
 ghost use Rattle.facts.specs.declared.fact.Fact.{Fact as Claim};
 ghost use Rattle.facts.specs.declared.fact.Fact.TheVariants as fact;
-ghost use Rattle.saturate.specs.derivation.Known.{IsGiven};
-ghost use Rattle.saturate.specs.derivation.Rounds.{Improves};
-ghost use Rattle.saturate.specs.derivation.Begun.{IsGathered, FirstLines};
+ghost use Rattle.derivation.specs.Known.{IsGiven};
+ghost use Rattle.derivation.specs.Rounds.{Improves};
+ghost use Rattle.derivation.specs.Begun.{IsGathered, FirstLines};
 ghost use Rattle.saturate.specs.Universes.{setting_of};
 ghost use Rattle.box_trace.specs.Tables.{known_at, HasRows};
 ghost use Rattle.box_trace.specs.Boxes.{BeginsRoot, BeginsBelow};
@@ -13,13 +13,12 @@ ghost use Rattle.box_trace.specs.Rounds.{BeginsBy, BeginsRootBy, IsStepIn, most_
 
 use crate::known::Known;
 use crate::log::{Log, Source};
-use expr_dag::Node;
+use fx_model::{Node, ExprId};
 use facts::{Fact, slot};
-use fx_model::ExprId;
 use interval::Interval;
-use saturate::Universe;
+use rule_universe::Universe;
 use std::alloc::{AllocError, Global};
-use tree_certificates::Given;
+use cert_checker::Given;
 
 // The hypothesis with this number.
 fn hypothesis(uni: &Universe, k: usize) -> Fact

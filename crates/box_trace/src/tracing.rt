@@ -1,6 +1,6 @@
 //! The steps of a box.
 ghost use Rattle.std.specs.Prelude.{◌<◌, ◌≤◌, ◌+◌, ◌^◌, [], IfOk, None, length};
-ghost use Rattle.saturate.specs.derivation.Known.{IsTableAt};
+ghost use Rattle.derivation.specs.Known.{IsTableAt};
 ghost use Rattle.saturate.specs.Universes.{setting_of};
 ghost use Rattle.box_trace.specs.Tables.{known_at, HasRows};
 ghost use Rattle.box_trace.specs.Rounds.{AreItsRounds, AreRoundsBelow, IsByRounds};
@@ -14,9 +14,10 @@ use crate::rounds::rounds;
 use crate::starts::{child_start, root_start};
 use fx_model::ExprId;
 use interval::Interval;
-use saturate::{Universe, rules_are_lawful};
+use rule_universe::Universe;
+use saturate::rules_are_lawful;
 use std::alloc::{AllocError, Global};
-use tree_certificates::StepRow;
+use cert_bytes::StepRow;
 
 /// A box's own steps, in their order, and its best facts, each with the number of its step: the
 /// box's own or an ancestor's.

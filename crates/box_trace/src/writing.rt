@@ -2,12 +2,11 @@
 ghost use Rattle.std.specs.Prelude.{◌≡◌, ◌<◌, ◌+◌, ◌*◌, ◌^◌, ◌↔◌, IsTrue, OnOk, length};
 ghost use Rattle.facts.specs.declared.fact.Fact.TheVariants as fact;
 ghost use Rattle.facts.specs.Order.{slot_of};
-ghost use Rattle.saturate.specs.derivation.Rounds.{IsSame};
-ghost use Rattle.saturate.specs.rule_universe.Places.{IsPlace, place_count};
+ghost use Rattle.derivation.specs.Rounds.{IsSame};
+ghost use Rattle.rule_universe.specs.Places.{IsPlace, place_count};
 ghost use Rattle.box_trace.specs.Tables.{known_at, HasRows};
 ghost use Rattle.box_trace.specs.Logs.{IsComeBy, IsSlotWritten, IsRound};
-ghost use Rattle.box_trace.specs.Scans.{IsConclusion, AreEndsOf, IsScanned, IsWide};
-ghost use Rattle.box_trace.specs.Scans.{IsGathered};
+ghost use Rattle.box_trace.specs.Scans.{IsConclusion, AreEndsOf, IsScanned, IsWide, IsGathered};
 
 use crate::ends::{Ends, Found};
 use crate::known::Known;
@@ -15,7 +14,8 @@ use crate::log::{Log, Source};
 use crate::scan::cite;
 use facts::{Slot, slot};
 use fx_edge::Items;
-use saturate::{Placed, Universe, instance_at, rules_are_lawful};
+use rule_universe::{Placed, Universe};
+use saturate::{instance_at, rules_are_lawful};
 use std::alloc::{AllocError, Global};
 
 // Lets what an instance concluded come to what is known.

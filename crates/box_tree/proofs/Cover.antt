@@ -1,22 +1,24 @@
 -- The pieces of a box cover it, and lie in it.
-use Rattle.std.specs.Prelude.{◌≡◌, ℕ, zero, suc, ◌<◌, ◌+◌, ◌-◌, ◌&&◌, nat_lt}
-use Rattle.std.specs.Prelude.{true, false, List, [], ◌∷◌, ◌++◌, length, drop, Option, Some, None}
-use Rattle.std.specs.Prelude.{IfSome, if◌then◌else◌, refl, ◌⊎◌, ⊤, slice_index_or}
+use Rattle.std.specs.Prelude.{◌≡◌, ℕ, zero, suc, ◌<◌, ◌+◌, ◌-◌, ◌&&◌, nat_lt, true, false, List, []}
+use Rattle.std.specs.Prelude.{◌∷◌, ◌++◌, length, drop, Option, Some, None, IfSome, if◌then◌else◌}
+use Rattle.std.specs.Prelude.{refl, ◌⊎◌, ⊤, slice_index_or}
 use Rattle.std.specs.List.{AllByRecursion}
 use Rattle.std.specs.Option.{option_map, IsSomeAnd}
 use Rattle.std.proofs.Common.{sym, ap, ◌∙◌, subst, arith, inl, inr}
 use Rattle.std.proofs.lemmas.Bool.{and_parts}
-use Rattle.script_hints.specs.fx_model.declared.ExprId.{ExprId}
-use Rattle.script_hints.specs.fx_model.Fraction.{Fraction, ◌≤ℚ◌, lt_le, le_refl, le_trans, le_or_lt}
-use Rattle.script_hints.specs.fx_model.Enclosure.{Lies}
-use Rattle.script_hints.specs.dyadic.declared.number.Dyadic.{Dyadic}
-use Rattle.script_hints.specs.dyadic.declared.number.End.TheVariants as end
-use Rattle.script_hints.specs.dyadic.Values.{value_of}
-use Rattle.script_hints.specs.dyadic.Rising.{IsRising, rising_more}
-use Rattle.script_hints.specs.facts.Order.{is_same}
-use Rattle.script_hints.specs.interval.declared.interval.Interval.{Interval}
-use Rattle.script_hints.specs.interval.Intervals.{range_of}
-use Rattle.script_hints.specs.interval.Meets.{interval_from-some}
+use Rattle.fx_model.specs.declared.ExprId.{ExprId}
+use Rattle.fx_model.specs.Fraction.{Fraction, ◌≤ℚ◌, lt_le, le_refl, le_trans, le_or_lt}
+use Rattle.fx_model.specs.Enclosure.{Lies}
+use Rattle.dyadic.specs.declared.number.Dyadic.{Dyadic}
+use Rattle.dyadic.specs.declared.number.End.TheVariants as end
+use Rattle.dyadic.specs.Values.{value_of}
+use Rattle.dyadic.specs.Rising.{IsRising, rising_more}
+use Rattle.interval.specs.declared.interval.Interval.{Interval}
+use Rattle.interval.specs.Intervals.{range_of}
+use Rattle.interval.specs.Meets.{interval_from-some}
+use Rattle.facts.specs.Order.{is_same}
+use Rattle.facts.specs.CommonParts.{at_option, expr_same, same_itself}
+use Rattle.facts.specs.Held.{some-and}
 use Rattle.script_hints.specs.declared.hint.Split.{Split}
 use Rattle.script_hints.specs.declared.hint.Cutting.{Cutting}
 use Rattle.box_tree.specs.declared.next.Next.{Next}
@@ -35,8 +37,6 @@ use Rattle.box_tree.specs.Plans.{pieces_below, pieces_at, piece_at}
 use Rattle.box_tree.specs.Covers.{Values, Has, LiesInRange, LieIn, LieInBox, LiesInPiece}
 use Rattle.box_tree.proofs.Put.{range_ordered, put_ordered}
 use Rattle.box_tree.proofs.Within.{forced_step, piece_ordered, forced_within, half_within}
-use Rattle.script_hints.specs.facts.CommonParts.{at_option, expr_same, same_itself}
-use Rattle.script_hints.specs.facts.Held.{some-and}
 use Rattle.box_tree.specs.InRanges.{at_bool, above_in, range_var, below_append}
 
 -- ---- one range

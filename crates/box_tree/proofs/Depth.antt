@@ -3,8 +3,9 @@ use Rattle.std.specs.Prelude.{◌≡◌, ℕ, ◌<◌, ◌≤◌, ◌+◌, nat_l
 use Rattle.std.specs.Prelude.{Some, None, if◌then◌else◌, refl, ◌⊎◌}
 use Rattle.std.proofs.Common.{sym, ap, ◌∙◌, subst, arith, inl, inr, length-drop}
 use Rattle.std.proofs.lemmas.Bool.{ltb-true}
-use Rattle.script_hints.specs.fx_model.declared.ExprId.{ExprId}
-use Rattle.script_hints.specs.dyadic.declared.number.Dyadic.{Dyadic}
+use Rattle.fx_model.specs.declared.ExprId.{ExprId}
+use Rattle.dyadic.specs.declared.number.Dyadic.{Dyadic}
+use Rattle.facts.specs.CommonParts.{at_option}
 use Rattle.script_hints.specs.declared.hint.Split.{Split}
 use Rattle.box_tree.specs.declared.next.Next.{Next}
 use Rattle.box_tree.specs.declared.next.Next.TheVariants as next
@@ -15,7 +16,6 @@ use Rattle.box_tree.specs.Regions.{PlanParts, Region, root, points_in, next_forc
 use Rattle.box_tree.specs.Regions.{halved_or, next_half, turned, half_of, else_next, next_of}
 use Rattle.box_tree.specs.Regions.{piece_by, piece, region_below, region_at}
 use Rattle.box_tree.specs.Plans.{cut_by, cut_at}
-use Rattle.script_hints.specs.facts.CommonParts.{at_option}
 use Rattle.box_tree.proofs.Within.{forced_step}
 use Rattle.box_tree.specs.InRanges.{at_bool}
 

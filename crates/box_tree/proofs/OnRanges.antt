@@ -4,15 +4,15 @@ use Rattle.std.specs.Prelude.{List, [], ◌∷◌, ◌++◌, drop, Option, Some,
 use Rattle.std.specs.List.{AllByRecursion}
 use Rattle.std.specs.Option.{IsSomeAnd}
 use Rattle.std.proofs.Common.{sym, ◌∙◌, ap, subst, arith}
-use Rattle.script_hints.specs.fx_model.declared.ExprId.{ExprId}
-use Rattle.script_hints.specs.dyadic.declared.number.Dyadic.{Dyadic}
-use Rattle.script_hints.specs.dyadic.declared.number.End.{End}
-use Rattle.script_hints.specs.dyadic.declared.number.End.TheVariants as end
-use Rattle.script_hints.specs.interval.declared.interval.Interval.{Interval}
-use Rattle.script_hints.specs.facts.declared.fact.Fact.{Fact}
-use Rattle.script_hints.specs.facts.declared.fact.Fact.TheVariants as fact
-use Rattle.script_hints.specs.facts.Order.{is_same}
-use Rattle.script_hints.specs.facts.CommonParts.{at_option, expr_same}
+use Rattle.fx_model.specs.declared.ExprId.{ExprId}
+use Rattle.dyadic.specs.declared.number.Dyadic.{Dyadic}
+use Rattle.dyadic.specs.declared.number.End.{End}
+use Rattle.dyadic.specs.declared.number.End.TheVariants as end
+use Rattle.interval.specs.declared.interval.Interval.{Interval}
+use Rattle.facts.specs.declared.fact.Fact.{Fact}
+use Rattle.facts.specs.declared.fact.Fact.TheVariants as fact
+use Rattle.facts.specs.Order.{is_same}
+use Rattle.facts.specs.CommonParts.{at_option, expr_same}
 use Rattle.script_claims.specs.declared.claim.Claim.{Claim}
 use Rattle.script_claims.specs.Facts.{hypothesis_fact}
 use Rattle.script_hints.specs.declared.hint.Split.{Split}

@@ -4,10 +4,10 @@ use Rattle.std.specs.Prelude.{◌==◌, List, [], ◌∷◌, ◌++◌, length, d
 use Rattle.std.proofs.Common.{sym, ap, ◌∙◌, subst, arith, length-append, append_assoc, append-nil}
 use Rattle.std.proofs.lemmas.Bool.{and_parts, eqb-true}
 use Rattle.std.proofs.lemmas.List.{at_drop_more, at_drop_all}
-use Rattle.script_hints.specs.fx_model.Fraction.{◌≤ℚ◌, ◌<ℚ◌, lt_le, le_refl, le_lt_trans}
-use Rattle.script_hints.specs.dyadic.declared.number.Dyadic.{Dyadic}
-use Rattle.script_hints.specs.dyadic.Values.{value_of, zero_number}
-use Rattle.script_hints.specs.dyadic.Rising.{point_of, point_last}
+use Rattle.fx_model.specs.Fraction.{◌≤ℚ◌, ◌<ℚ◌, lt_le, le_refl, le_lt_trans}
+use Rattle.dyadic.specs.declared.number.Dyadic.{Dyadic}
+use Rattle.dyadic.specs.Values.{value_of, zero_number}
+use Rattle.dyadic.specs.Rising.{point_of, point_last}
 use Rattle.script_hints.specs.Few.{HasFewPieces}
 use Rattle.script_hints.specs.declared.hint.Cutting.{Cutting}
 use Rattle.script_hints.specs.declared.hint.Cutting.TheVariants as cutting

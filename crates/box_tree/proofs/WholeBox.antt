@@ -3,19 +3,21 @@ use Rattle.std.specs.Prelude.{◌≡◌, ℕ, true, List, [], ◌∷◌, Option,
 use Rattle.std.specs.List.{AllByRecursion}
 use Rattle.std.specs.Option.{IsSomeAnd}
 use Rattle.std.proofs.Common.{sym, subst}
-use Rattle.script_hints.specs.fx_model.declared.ExprId.{ExprId}
-use Rattle.script_hints.specs.fx_model.declared.Node.{Node}
-use Rattle.script_hints.specs.fx_model.Enclosure.{Lies}
-use Rattle.script_hints.specs.fx_model.Expression.{Assignment, value}
-use Rattle.script_hints.specs.dyadic.declared.number.End.{End}
-use Rattle.script_hints.specs.dyadic.declared.number.End.TheVariants as end
-use Rattle.script_hints.specs.interval.declared.interval.Interval.{Interval}
-use Rattle.script_hints.specs.interval.Ends.{range_from}
-use Rattle.script_hints.specs.interval.Intervals.{range_of}
-use Rattle.script_hints.specs.facts.declared.fact.Fact.{Fact}
-use Rattle.script_hints.specs.facts.declared.fact.Fact.TheVariants as fact
-use Rattle.script_hints.specs.facts.Holds.{Holds}
-use Rattle.script_hints.specs.facts.Order.{is_same}
+use Rattle.fx_model.specs.declared.ExprId.{ExprId}
+use Rattle.fx_model.specs.declared.Node.{Node}
+use Rattle.fx_model.specs.Enclosure.{Lies}
+use Rattle.fx_model.specs.Expression.{Assignment, value}
+use Rattle.dyadic.specs.declared.number.End.{End}
+use Rattle.dyadic.specs.declared.number.End.TheVariants as end
+use Rattle.interval.specs.declared.interval.Interval.{Interval}
+use Rattle.interval.specs.Ends.{range_from}
+use Rattle.interval.specs.Intervals.{range_of}
+use Rattle.facts.specs.declared.fact.Fact.{Fact}
+use Rattle.facts.specs.declared.fact.Fact.TheVariants as fact
+use Rattle.facts.specs.Holds.{Holds}
+use Rattle.facts.specs.Order.{is_same}
+use Rattle.facts.specs.CommonParts.{expr_same}
+use Rattle.facts.specs.Held.{some-and}
 use Rattle.script_claims.specs.declared.claim.Claim.{Claim}
 use Rattle.script_claims.specs.Facts.{hypothesis_fact}
 use Rattle.script_claims.specs.Meets.{IsTrueAt}
@@ -25,9 +27,7 @@ use Rattle.box_tree.specs.Ranges.{range_in}
 use Rattle.box_tree.specs.Root.{finite_range, range_by, or_later, split_range, with_range}
 use Rattle.box_tree.specs.Root.{split_ranges, plan_by}
 use Rattle.box_tree.specs.Covers.{Has, LiesInRange, LieIn, LieInBox}
-use Rattle.script_hints.specs.facts.CommonParts.{expr_same}
 use Rattle.box_tree.proofs.Cover.{root_out}
-use Rattle.script_hints.specs.facts.Held.{some-and}
 use Rattle.box_tree.specs.InRanges.{at_bool, finite_out}
 
 -- ---- one hypothesis

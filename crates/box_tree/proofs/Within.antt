@@ -1,17 +1,17 @@
 -- Points lie in the ranges that they cut, and rise.
-use Rattle.std.specs.Prelude.{◌≡◌, ℕ, zero, suc, ◌+◌, true, ◌&&◌, nat_lt, List}
-use Rattle.std.specs.Prelude.{[], ◌∷◌, ◌++◌, length, Option, Some, None, IfSome, if◌then◌else◌}
-use Rattle.std.specs.Prelude.{refl, ◌⊎◌, slice_index_or}
+use Rattle.std.specs.Prelude.{◌≡◌, ℕ, zero, suc, ◌+◌, true, ◌&&◌, nat_lt, List, [], ◌∷◌, ◌++◌}
+use Rattle.std.specs.Prelude.{length, Option, Some, None, IfSome, if◌then◌else◌, refl, ◌⊎◌}
+use Rattle.std.specs.Prelude.{slice_index_or}
 use Rattle.std.specs.List.{AllByRecursion}
 use Rattle.std.proofs.Common.{sym, subst, arith, inl, inr}
 use Rattle.std.proofs.lemmas.Bool.{cases_lt, and_parts}
 use Rattle.std.proofs.lemmas.List.{get_or_default}
 use Rattle.std.proofs.Math.ListN.{get_or-eq_default}
-use Rattle.script_hints.specs.fx_model.declared.ExprId.{ExprId}
-use Rattle.script_hints.specs.fx_model.Fraction.{◌≤ℚ◌, lt_le, le_refl}
-use Rattle.script_hints.specs.dyadic.declared.number.Dyadic.{Dyadic}
-use Rattle.script_hints.specs.dyadic.Values.{value_of, zero_number}
-use Rattle.script_hints.specs.dyadic.Rising.{point_of, IsRising}
+use Rattle.fx_model.specs.declared.ExprId.{ExprId}
+use Rattle.fx_model.specs.Fraction.{◌≤ℚ◌, lt_le, le_refl}
+use Rattle.dyadic.specs.declared.number.Dyadic.{Dyadic}
+use Rattle.dyadic.specs.Values.{value_of, zero_number}
+use Rattle.dyadic.specs.Rising.{point_of, IsRising}
 use Rattle.script_hints.specs.declared.hint.Split.{Split}
 use Rattle.script_hints.specs.declared.hint.Cutting.{Cutting}
 use Rattle.box_tree.specs.declared.next.Next.{Next}

@@ -1,19 +1,18 @@
 -- Points that lie in ranges, ranges in lists, and boxes along paths.
-use Rattle.std.specs.Prelude.{◌≡◌, ◌<◌, ◌-◌, ◌==◌, ℕ, zero, suc, Bool, true, false}
-use Rattle.std.specs.Prelude.{List, [], ◌∷◌, ◌++◌, length, drop, Some, if◌then◌else◌}
-use Rattle.std.specs.Prelude.{slice_index_or, refl}
+use Rattle.std.specs.Prelude.{◌≡◌, ◌<◌, ◌-◌, ◌==◌, ℕ, zero, suc, Bool, true, false, List, [], ◌∷◌}
+use Rattle.std.specs.Prelude.{◌++◌, length, drop, Some, if◌then◌else◌, slice_index_or, refl}
 use Rattle.std.specs.List.{AllByRecursion}
 use Rattle.std.proofs.Common.{sym, ap, ◌∙◌, arith, ⊎_elim}
 use Rattle.std.proofs.lemmas.Bool.{and_parts, or_cases, not-true, eqb-true}
-use Rattle.script_hints.specs.fx_model.declared.ExprId.{ExprId}
-use Rattle.script_hints.specs.fx_model.Fraction.{le_ℚ, ◌<ℚ◌, lt_le}
-use Rattle.script_hints.specs.dyadic.declared.number.Dyadic.{Dyadic}
-use Rattle.script_hints.specs.dyadic.declared.number.End.{End}
-use Rattle.script_hints.specs.dyadic.declared.number.End.TheVariants as end
-use Rattle.script_hints.specs.dyadic.Values.{value_of}
-use Rattle.script_hints.specs.dyadic.Rising.{point_of, IsAboveLast}
-use Rattle.script_hints.specs.facts.Order.{is_same}
-use Rattle.script_hints.specs.facts.CommonParts.{expr_same}
+use Rattle.fx_model.specs.declared.ExprId.{ExprId}
+use Rattle.fx_model.specs.Fraction.{le_ℚ, ◌<ℚ◌, lt_le}
+use Rattle.dyadic.specs.declared.number.Dyadic.{Dyadic}
+use Rattle.dyadic.specs.declared.number.End.{End}
+use Rattle.dyadic.specs.declared.number.End.TheVariants as end
+use Rattle.dyadic.specs.Values.{value_of}
+use Rattle.dyadic.specs.Rising.{point_of, IsAboveLast}
+use Rattle.facts.specs.Order.{is_same}
+use Rattle.facts.specs.CommonParts.{expr_same}
 use Rattle.script_hints.specs.declared.hint.Split.{Split}
 use Rattle.script_hints.specs.Few.{HaveFewPieces}
 use Rattle.box_tree.specs.declared.range.SplitRange.{SplitRange}

@@ -1,14 +1,14 @@
 -- The points at which a range is cut, and its pieces.
 use Rattle.std.specs.Prelude.{ℕ, zero, suc, ◌+◌, ◌-◌, Bool, true, false, ◌==◌, ◌&&◌, ◌||◌, List, []}
 use Rattle.std.specs.Prelude.{◌∷◌, ◌++◌, length, slice_index_or, Option, Some, None, if◌then◌else◌}
-use Rattle.script_hints.specs.fx_model.Fraction.{Fraction}
-use Rattle.script_hints.specs.dyadic.declared.number.Dyadic.{Dyadic}
-use Rattle.script_hints.specs.dyadic.declared.number.End.{End}
-use Rattle.script_hints.specs.dyadic.declared.number.End.TheVariants as end
-use Rattle.script_hints.specs.dyadic.Values.{value_of}
-use Rattle.script_hints.specs.dyadic.Middle.{halfway, part_of}
-use Rattle.script_hints.specs.dyadic.Rising.{point_of}
-use Rattle.script_hints.specs.interval.Results.{point_of as nearest}
+use Rattle.fx_model.specs.Fraction.{Fraction}
+use Rattle.dyadic.specs.declared.number.Dyadic.{Dyadic}
+use Rattle.dyadic.specs.declared.number.End.{End}
+use Rattle.dyadic.specs.declared.number.End.TheVariants as end
+use Rattle.dyadic.specs.Values.{value_of}
+use Rattle.dyadic.specs.Middle.{halfway, part_of}
+use Rattle.dyadic.specs.Rising.{point_of}
+use Rattle.interval.specs.Results.{point_of as nearest}
 use Rattle.script_hints.specs.declared.hint.Cutting.{Cutting}
 use Rattle.script_hints.specs.declared.hint.Cutting.TheVariants as cutting
 use Rattle.box_tree.specs.declared.range.SplitRange.{SplitRange}

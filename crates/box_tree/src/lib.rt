@@ -1,9 +1,6 @@
 //! Where boxes are cut, and what their pieces are.
 #![tactic(auto)]
 
-// What callers name of the crates below.
-pub use script_claims::{Claim, Line, goals_are_enough, hypotheses_hold, lines_hold};
-pub use script_hints::Fact;
 
 mod boxes;
 mod cut;

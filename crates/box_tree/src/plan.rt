@@ -6,7 +6,8 @@ ghost use Rattle.box_tree.specs.Ranges.{IsOrdered};
 
 use crate::range::SplitRange;
 use script_hints::hint::Split;
-use script_hints::{ExprId, Items};
+use fx_model::ExprId;
+use fx_edge::Items;
 use std::marker::Model;
 
 /// How boxes are cut.

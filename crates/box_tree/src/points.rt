@@ -1,14 +1,14 @@
 // The points at which a range is cut.
 ghost use Rattle.std.specs.Prelude.{◌≡◌, ◌<◌, ◌≤◌, ◌-◌, ◌+◌, [], ◌∷◌, length, drop};
+ghost use Rattle.dyadic.specs.Rising.{point_of};
+ghost use Rattle.script_hints.specs.Few.{HasFewPieces};
 ghost use Rattle.box_tree.specs.Ranges.{IsOrdered, IsWithin};
 ghost use Rattle.box_tree.specs.Points.{asked_points};
-ghost use Rattle.script_hints.specs.dyadic.Rising.{point_of};
-ghost use Rattle.script_hints.specs.Few.{HasFewPieces};
 ghost use Rattle.box_tree.specs.Points as spec;
 
 use crate::range::SplitRange;
 use script_hints::hint::Cutting;
-use script_hints::{Dyadic, Points, part_down};
+use dyadic::{Dyadic, Points, part_down};
 
 /// The number i of the points that cut the range into n parts.
 fn part_at(range: SplitRange, i: u8, n: u8) -> Dyadic

@@ -1,9 +1,9 @@
 // A box as the cuts on its path make it.
 ghost use Rattle.std.specs.Prelude.{◌≡◌, ◌<◌, ◌≤◌, ◌+◌, ◌-◌, ℕ, [], ◌∷◌, length, drop, Some};
 ghost use Rattle.std.specs.Prelude.{IfSome};
+ghost use Rattle.std.specs.List.{AllByRecursion};
 ghost use Rattle.script_hints.specs.Few.{HasFewPieces, HaveFewPieces};
 ghost use Rattle.box_tree.specs.Nexts.{IsHalved, IsWithinNext};
-ghost use Rattle.std.specs.List.{AllByRecursion};
 ghost use Rattle.box_tree.specs.Ranges.{IsOrdered, IsWithin, put_range, range_in};
 ghost use Rattle.box_tree.specs.Points.{are_any};
 ghost use Rattle.box_tree.specs.Regions as spec;
@@ -14,7 +14,8 @@ use crate::plan::Plan;
 use crate::points::{cut_piece, cut_points, half_piece, has_points};
 use crate::range::{SplitRange, put_range, range_in};
 use script_hints::hint::Split;
-use script_hints::{Dyadic, ExprId, Points};
+use dyadic::{Dyadic, Points};
+use fx_model::ExprId;
 use std::marker::Model;
 
 /// The ranges of a box, how many unconditional cuts and how many halvings are behind it, and the

@@ -3,24 +3,28 @@ ghost use Rattle.std.specs.Prelude.{◌≡◌, ◌≤◌, ◌<◌, ◌++◌, ◌
 ghost use Rattle.std.specs.Prelude.{None, IfOk, IfSome};
 ghost use Rattle.std.specs.List.{AllByRecursion};
 ghost use Rattle.std.specs.Option.{IsSomeAnd};
+ghost use Rattle.fx_model.specs.Expression.{Assignment, value};
+ghost use Rattle.fx_model.specs.declared.Node.{Node};
 ghost use Rattle.script_claims.specs.Facts.{HasNormalBounds};
+ghost use Rattle.script_claims.specs.Meets.{IsTrueAt};
+ghost use Rattle.script_claims.specs.declared.claim.Claim.{Claim};
+ghost use Rattle.script_hints.specs.declared.hint.HintList.{HintList};
 ghost use Rattle.box_tree.specs.Few.{AreFew};
 ghost use Rattle.box_tree.specs.Pieces.{piece_count};
 ghost use Rattle.box_tree.specs.Plans.{cut_at, piece_at};
 ghost use Rattle.box_tree.specs.Ranges.{IsOrdered};
 ghost use Rattle.box_tree.specs.Root as spec;
 ghost use Rattle.box_tree.specs.Covers.{LieInBox};
-ghost use Rattle.script_hints.specs.fx_model.Expression.{Assignment, value};
-ghost use Rattle.script_hints.specs.fx_model.declared.Node.{Node};
-ghost use Rattle.script_claims.specs.Meets.{IsTrueAt};
-ghost use Rattle.script_claims.specs.declared.claim.Claim.{Claim};
-ghost use Rattle.script_hints.specs.declared.hint.HintList.{HintList};
 
 use crate::plan::Plan;
 use crate::range::SplitRange;
 use script_claims::{Claim, hypotheses_hold};
 use script_hints::hint::{Cutting, HintList, Split};
-use script_hints::{Dyadic, End, ExprId, Fact, Interval, Items};
+use dyadic::{Dyadic, End};
+use fx_model::ExprId;
+use facts::Fact;
+use interval::Interval;
+use fx_edge::Items;
 use std::alloc::{AllocError, Global};
 
 /// The interval as a range, where its ends are finite.

@@ -7,11 +7,12 @@ use Rattle.std.specs.Ordering.{nat_cmp}
 use Rattle.std.proofs.lemmas.List.Elements.{All-nil, All-weaker}
 use Rattle.std.proofs.lemmas.List.Sorted.{All-permutation, sum_by-IsPermutation}
 use Rattle.std.proofs.lemmas.List.Sums.{sum_by-cons}
-use Rattle.accounts.specs.Weights.{total}
+use Rattle.boxcar.specs.Table.{Shelves}
 use Rattle.bisect.specs.Trees.{Tree}
 use Rattle.bisect.specs.Boxes.{first_open, leaves_of}
 use Rattle.bisect.specs.Walks.{IsListed, boxes_from}
 use Rattle.bisect.specs.declared.outcome.Leaf.{Leaf}
+use Rattle.accounts.specs.Weights.{total}
 use Rattle.box_workers.specs.declared.record.Record.{Record}
 use Rattle.box_workers.specs.Seen.{BoxTask}
 use Rattle.box_workers.specs.Answers.{first_open_in}
@@ -19,7 +20,6 @@ use Rattle.box_workers.specs.Gathered.{leaf_only, IsAccount, records_rest, left_
 use Rattle.box_workers.specs.Gathered.{Few, IsPart}
 use Rattle.box_workers.specs.Ends.{HeldFits, RecordFits}
 use Rattle.box_workers.specs.declared.fate.Held.{Held}
-use Rattle.boxcar.specs.Table.{Shelves}
 use Rattle.box_workers.specs.Records.{IsLeafWithState}
 use Rattle.box_workers.proofs.Finishing.{both}
 use Rattle.box_workers.proofs.Order.{leaves_in_order, open_leaves, ordered}

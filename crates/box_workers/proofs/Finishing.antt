@@ -3,21 +3,21 @@ use Rattle.std.proofs.Common.{◌≡◌, ℕ, suc, ◌+◌, ◌<◌, ◌≤◌, 
 use Rattle.std.proofs.Common.{length, All, Option, Some, MatchOption, sym, refl, ap, ◌∙◌, subst}
 use Rattle.std.proofs.Common.{arith, eq-eqb}
 use Rattle.std.proofs.lemmas.List.Elements.{All-head, All-tail, All-cons, All-nil, All-append}
-use Rattle.accounts.specs.Weights.{total, kids}
+use Rattle.std.proofs.lemmas.Bool.Decides.{eqb_tells}
+use Rattle.box_tree.specs.Pieces.{piece_count}
 use Rattle.bisect.specs.Trees.{Tree, child_count, all_pieces}
 use Rattle.bisect.specs.Walks.{IsListed}
-use Rattle.accounts.specs.box_tree.Pieces.{piece_count}
+use Rattle.bisect.specs.declared.outcome.Leaf.{Leaf}
+use Rattle.accounts.specs.Weights.{total, kids}
+use Rattle.accounts.specs.Sums.{total_append, total_snoc, kids_le}
 use Rattle.box_workers.specs.declared.fate.Held.{Held}
 use Rattle.box_workers.proofs.Whole.{below_law}
-use Rattle.std.proofs.lemmas.Bool.Decides.{eqb_tells}
-use Rattle.bisect.specs.declared.outcome.Leaf.{Leaf}
 use Rattle.box_workers.specs.Gathered.{below, leaf_only, Went, nothing, left_rest, children_rest}
 use Rattle.box_workers.specs.Gathered.{held_rest, record_rest, records_rest}
 use Rattle.box_workers.specs.declared.record.Record.{Record}
 use Rattle.box_workers.specs.Records.{IsLeafWithState}
 use Rattle.box_workers.specs.Seen.{BoxTask}
 use Rattle.box_workers.proofs.Walking.{went_trans, went_frame, went_as, total_ones}
-use Rattle.accounts.specs.Sums.{total_append, total_snoc, kids_le}
 
 -- after one more of several parts
 part : (t : Tree) (a b c : ℕ) (k l m : List Leaf) (whole rest more less : (List ℕ → ℕ) → ℕ)

@@ -6,6 +6,7 @@ use Rattle.std.proofs.lemmas.Bool.Decides.{eqb_tells}
 use Rattle.std.proofs.lemmas.List.Elements.{All-weaker}
 use Rattle.fx_edge.specs.declared.ledger.Ledger.{Ledger}
 use Rattle.accounts.specs.Weights.{total}
+use Rattle.accounts.specs.Sums.{total_append, total_map}
 use Rattle.box_deques.specs.Close.{AreHands, IsLedgerOf}
 use Rattle.box_deques.specs.Rule.{Gone, taken_by}
 use Rattle.box_deques.specs.Seen.{Lane, Seat, Hand, Name, no_seat, seat_at, hand_with, without_pass}
@@ -16,7 +17,6 @@ use Rattle.box_workers.specs.Seen.{BoxTask}
 use Rattle.box_workers.specs.Sums.{sum_to}
 use Rattle.box_workers.specs.Taking.{weight_of}
 use Rattle.box_workers.proofs.Sums.{sum_same, ledger_total}
-use Rattle.accounts.specs.Sums.{total_append, total_map}
 
 pub first_out : {X : Type 0} (old new : List X) (x : X) → 0 < length old
     → x ≡ slice_index_or old 0 x → new ≡ take 0 old ++ drop (0 + 1) old → old ≡ x ∷ new

@@ -12,15 +12,15 @@ use Rattle.std.specs.Ordering.{nat_cmp, is_lt}
 use Rattle.std.specs.declared.cmp.Ordering.TheVariants.{Less}
 use Rattle.std.proofs.lemmas.Bool.Decides.{eqb_tells}
 use Rattle.std.proofs.lemmas.List.Elements.{All-head, All-tail, All-cons, All-nil, All-map}
-use Rattle.accounts.specs.Weights.{total, one}
 use Rattle.bisect.specs.Trees.{Tree, child_count}
 use Rattle.bisect.specs.Boxes.{IsBefore, leaf_at, with_leaf, leaves_of, open_goal, or_later}
 use Rattle.bisect.specs.Boxes.{first_open}
 use Rattle.bisect.specs.declared.outcome.Leaf.{Leaf}
+use Rattle.accounts.specs.Weights.{total, one}
+use Rattle.accounts.specs.Sums.{total_map, some_positive, same_or_not, one_same}
 use Rattle.box_workers.specs.Answers.{first_open_in}
 use Rattle.box_workers.specs.Gathered.{leaf_only}
 use Rattle.box_workers.specs.Records.{IsLeafWithState}
-use Rattle.accounts.specs.Sums.{total_map, some_positive, same_or_not, one_same}
 
 -- no later path is before an earlier one
 abbrev pub IsOrdered : List (List ℕ) → Type 0

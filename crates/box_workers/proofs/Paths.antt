@@ -1,8 +1,8 @@
 -- Paths of a plan.
-use Rattle.std.proofs.Common.{◌≡◌, inl, inr, ℕ, ◌<◌, List, [], ◌∷◌, ◌++◌}
-use Rattle.std.proofs.Common.{sym, ap, ◌∙◌, subst, append_assoc}
+use Rattle.std.proofs.Common.{◌≡◌, inl, inr, ℕ, ◌<◌, List, [], ◌∷◌, ◌++◌, sym, ap, ◌∙◌, subst}
+use Rattle.std.proofs.Common.{append_assoc}
+use Rattle.box_tree.specs.Paths.{IsPathOf}
 use Rattle.accounts.specs.Paths.{child}
-use Rattle.accounts.specs.box_tree.Paths.{IsPathOf}
 use Rattle.accounts.specs.Sums.{child_same, ends}
 
 pub child_path : (pieces : List ℕ → ℕ) (q : List ℕ) (i : ℕ) → IsPathOf pieces q → i < pieces q

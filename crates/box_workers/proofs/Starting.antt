@@ -6,29 +6,29 @@ use Rattle.std.proofs.Common.{refl, ap, ◌∙◌, subst, arith}
 use Rattle.std.proofs.lemmas.Bool.Decides.{eqb_tells}
 use Rattle.std.proofs.lemmas.List.Elements.{All-weaker, All-nil, All-cons}
 use Rattle.std.proofs.lemmas.Option.{same_Some}
-use Rattle.fact_board.specs.Sees.{Sees}
+use Rattle.boxcar.specs.Table.{Shelves}
+use Rattle.bisect.specs.Trees.{Tree}
+use Rattle.accounts.specs.Weights.{total}
+use Rattle.accounts.specs.Sums.{total_append, total_map}
 use Rattle.box_deques.specs.Rule.{Belongs}
+use Rattle.box_deques.specs.Seen.{Lane, Thief, Seat, Hand, Name, seat_at, HasPass, IsNew, IsSeated}
+use Rattle.box_deques.specs.Seen.{no_lane, with_hands, with_push}
+use Rattle.box_deques.specs.Stealing.{CanSteal}
+use Rattle.fact_board.specs.Sees.{Sees}
 use Rattle.box_workers.specs.declared.fate.Held.{Held}
 use Rattle.box_workers.specs.Ends.{HeldFits, RecordFits}
 use Rattle.box_workers.specs.Fates.{IsHeld}
-use Rattle.boxcar.specs.Table.{Shelves}
-use Rattle.accounts.specs.Weights.{total}
-use Rattle.bisect.specs.Trees.{Tree}
-use Rattle.box_deques.specs.Seen.{Lane, Thief, Seat, Hand, Name, seat_at, HasPass, IsNew, IsSeated}
-use Rattle.box_deques.specs.Seen.{no_lane, with_hands, with_push}
 use Rattle.box_workers.specs.declared.post.Post.{Post}
 use Rattle.box_workers.specs.declared.record.Record.{Record}
 use Rattle.box_workers.specs.Seen.{BoxTask, board_of}
 use Rattle.box_workers.specs.Starts.{IsThief, IsStart, AreStarts, lane_name}
 use Rattle.box_workers.specs.Sums.{sum_to}
-use Rattle.box_deques.specs.Stealing.{CanSteal}
 use Rattle.box_workers.specs.Taking.{weight_of, took}
 use Rattle.box_workers.specs.Joins.{no_hand, taken_of_lane, lanes_pushed, lanes_took, CanClose}
 use Rattle.box_workers.specs.Joins.{CanCloseAll}
 use Rattle.box_workers.specs.Records.{children_of_all, children_of_held, record_weight, IsRecord}
 use Rattle.box_workers.specs.Gathered.{IsAccount}
 use Rattle.box_workers.proofs.Sums.{sum_same, sum_plus, sum_swap, sum_zero, shifted, hand_by_lanes}
-use Rattle.accounts.specs.Sums.{total_append, total_map}
 
 -- a worker at its start can steal
 pub start_can_steal : {E Q : Type 0} (n capacity : ℕ) (names : ℕ → Name) (k : ℕ) (post : Post E Q)

@@ -5,6 +5,7 @@ use Rattle.std.proofs.Common.{arith}
 use Rattle.std.proofs.lemmas.Bool.Decides.{eqb_tells}
 use Rattle.std.proofs.lemmas.List.Elements.{All-head, All-tail}
 use Rattle.accounts.specs.Weights.{total}
+use Rattle.accounts.specs.Sums.{total_append}
 use Rattle.box_deques.specs.Close.{AreHands}
 use Rattle.box_deques.specs.Rule.{Gone, taken_by, paths_of}
 use Rattle.box_deques.specs.Seen.{Seat, Hand, seat_at, OwnIsEmpty}
@@ -12,7 +13,6 @@ use Rattle.box_deques.specs.Views.{Take}
 use Rattle.box_workers.specs.Joins.{no_hand, taken_of_lane}
 use Rattle.box_workers.specs.Sums.{sum_to}
 use Rattle.box_workers.specs.Taking.{weight_of}
-use Rattle.accounts.specs.Sums.{total_append}
 
 pub sum_same : (f g : ℕ → ℕ) (n : ℕ) → ((k : ℕ) → k < n → f k ≡ g k) → sum_to f n ≡ sum_to g n
 sum_same f g zero h = refl

@@ -1,12 +1,12 @@
 -- The turns of a worker.
-use Rattle.std.proofs.Common.{◌≡◌, ℕ, ◌+◌, ◌<◌, List, [], ◌∷◌, ◌++◌, Option, Some, None}
-use Rattle.std.proofs.Common.{IfNone, is_some, false, sym, refl, ap, ◌∙◌, subst, append_assoc}
-use Rattle.std.proofs.Common.{arith}
+use Rattle.std.proofs.Common.{◌≡◌, ℕ, ◌+◌, ◌<◌, List, [], ◌∷◌, ◌++◌, Option, Some, None, IfNone}
+use Rattle.std.proofs.Common.{is_some, false, sym, refl, ap, ◌∙◌, subst, append_assoc, arith}
 use Rattle.std.proofs.lemmas.List.Elements.{All-nil, All-push}
 use Rattle.boxcar.specs.Table.{Shelves}
 use Rattle.bisect.specs.Trees.{Tree, child_count}
 use Rattle.bisect.specs.Boxes.{leaf_at}
 use Rattle.bisect.specs.declared.outcome.Leaf.{Leaf}
+use Rattle.accounts.specs.Sums.{total_snoc}
 use Rattle.box_deques.specs.Seen.{Lane, Hand}
 use Rattle.box_workers.specs.declared.fate.Held.{Held}
 use Rattle.box_workers.specs.declared.fate.Fate.{Fate}
@@ -17,7 +17,6 @@ use Rattle.box_workers.specs.Records.{children_of_all, record_weight, IsLeafWith
 use Rattle.box_workers.specs.Records.{IsEntered}
 use Rattle.box_workers.specs.Taking.{weight_of, hand_took, took, HandWentOn, LaneWentOn}
 use Rattle.box_workers.proofs.Taking.{goes_on_trans, goes_on_same, went_on_trans, went_on_same}
-use Rattle.accounts.specs.Sums.{total_snoc}
 
 append_none : {X : Type 0} (xs : List X) → xs ++ [] ≡ xs
 append_none [] = refl

@@ -2,15 +2,15 @@
 use Rattle.std.proofs.Common.{◌≡◌, ℕ, zero, suc, ◌+◌, ◌-◌, List, [], ◌∷◌, ◌++◌, length, All, sym}
 use Rattle.std.proofs.Common.{refl, ap, ◌∙◌, subst, arith}
 use Rattle.std.proofs.lemmas.List.Elements.{All-cons, All-nil, All-append}
-use Rattle.accounts.specs.Weights.{total}
 use Rattle.bisect.specs.Trees.{Tree, child_count}
 use Rattle.bisect.specs.Boxes.{leaf_at, with_leaf, leaves_of}
 use Rattle.bisect.specs.Walks.{Seen, after, boxes_from}
 use Rattle.bisect.specs.declared.outcome.Leaf.{Leaf}
+use Rattle.accounts.specs.Weights.{total}
+use Rattle.accounts.specs.Sums.{total_append}
 use Rattle.box_workers.specs.Gathered.{below, leaf_only, Went, nothing}
 use Rattle.box_workers.specs.Records.{IsLeafWithState}
 use Rattle.box_workers.proofs.Order.{leaves_total}
-use Rattle.accounts.specs.Sums.{total_append}
 
 pub went_trans : (t : Tree) (a b c : ℕ) (k l m : List Leaf) (x y z : (List ℕ → ℕ) → ℕ)
     → Went t a k b l x y → Went t b l c m y z → Went t a k c m x z

@@ -1,12 +1,13 @@
 -- The whole tree is what was settled and split, and the trees below what is held or left.
-use Rattle.std.proofs.Common.{◌≡◌, ℕ, zero, suc, ◌+◌, ◌-◌, List, [], ◌∷◌}
-use Rattle.std.proofs.Common.{◌++◌, length, All, Option, Some, None, refl, ap, length-append, arith}
+use Rattle.std.proofs.Common.{◌≡◌, ℕ, zero, suc, ◌+◌, ◌-◌, List, [], ◌∷◌, ◌++◌, length, All, Option}
+use Rattle.std.proofs.Common.{Some, None, refl, ap, length-append, arith}
 use Rattle.std.proofs.lemmas.List.Elements.{All-head, All-tail}
-use Rattle.accounts.specs.Paths.{child}
-use Rattle.accounts.specs.Weights.{total, kids}
 use Rattle.bisect.specs.Trees.{Tree, child_count}
 use Rattle.bisect.specs.Walks.{IsListed, pieces_from, boxes_from}
 use Rattle.bisect.specs.declared.outcome.Leaf.{Leaf}
+use Rattle.accounts.specs.Paths.{child}
+use Rattle.accounts.specs.Weights.{total, kids}
+use Rattle.accounts.specs.Sums.{total_append, total_snoc, kids_le}
 use Rattle.box_workers.specs.declared.fate.Held.{Held}
 use Rattle.box_workers.specs.declared.record.Record.{Record}
 use Rattle.box_workers.specs.Seen.{BoxTask}
@@ -14,7 +15,6 @@ use Rattle.box_workers.specs.Fates.{children_of}
 use Rattle.box_workers.specs.Gathered.{below, IsAccount, held_rest_of, record_rest, Few, IsPart}
 use Rattle.box_workers.specs.Records.{children_of_all, children_of_held, held_weight, record_weight}
 use Rattle.box_workers.specs.Records.{IsLeafWithState}
-use Rattle.accounts.specs.Sums.{total_append, total_snoc, kids_le}
 
 pub children_total : (h : List ℕ → ℕ) (p : List ℕ) (c : ℕ) → total h (children_of p c) ≡ kids h p c
 children_total h p zero = refl

@@ -1,8 +1,8 @@
 //! What becomes of one box.
 ghost use Rattle.std.specs.Prelude.{◌≡◌, ◌<◌, ◌≤◌, length, Some, None, MatchOption};
+ghost use Rattle.box_tree.specs.Paths.{IsPathOf};
+ghost use Rattle.box_tree.specs.Pieces.{piece_count};
 ghost use Rattle.bisect.specs.Trees.{tree_of};
-ghost use Rattle.accounts.specs.box_tree.Paths.{IsPathOf};
-ghost use Rattle.accounts.specs.box_tree.Pieces.{piece_count};
 ghost use Rattle.box_workers.specs.Fates.{IsFate, Pushes, StopsAt, children_of};
 
 use crate::site::Site;

@@ -1,14 +1,14 @@
 //! What the caller finishes by itself, once all workers have ended.
-ghost use Rattle.std.specs.Prelude.{◌≡◌, ◌<◌, ◌≤◌, ◌+◌, ◌-◌, All, IsTrue, false, true};
-ghost use Rattle.std.specs.Prelude.{IfOk, MatchOption, length, ◌++◌};
+ghost use Rattle.std.specs.Prelude.{◌≡◌, ◌<◌, ◌≤◌, ◌+◌, ◌-◌, All, IsTrue, false, true, IfOk};
+ghost use Rattle.std.specs.Prelude.{MatchOption, length, ◌++◌};
+ghost use Rattle.box_tree.specs.Paths.{IsPathOf};
+ghost use Rattle.box_tree.specs.Pieces.{piece_count};
 ghost use Rattle.bisect.specs.Trees.{tree_of};
+ghost use Rattle.bisect.specs.Answers.{IsAnswer};
+ghost use Rattle.bisect.specs.Walks.{StaysWithin};
 ghost use Rattle.box_workers.specs.Gathered.{Went, below, held_rest, held_rest_of, record_rest};
 ghost use Rattle.box_workers.specs.Gathered.{records_rest, left_rest, children_rest, nothing};
 ghost use Rattle.box_workers.specs.Gathered.{IsAccount};
-ghost use Rattle.bisect.specs.Answers.{IsAnswer};
-ghost use Rattle.bisect.specs.Walks.{StaysWithin};
-ghost use Rattle.accounts.specs.box_tree.Paths.{IsPathOf};
-ghost use Rattle.accounts.specs.box_tree.Pieces.{piece_count};
 ghost use Rattle.box_workers.specs.Ends.{TaskFits, HeldFits, RecordFits};
 ghost use Rattle.box_workers.specs.Seen as seen;
 

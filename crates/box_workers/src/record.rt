@@ -1,10 +1,10 @@
 //! What one worker did.
-ghost use Rattle.std.specs.Prelude.{◌≡◌, ◌<◌, Some, None, MatchOption, IfNone};
-ghost use Rattle.std.specs.Prelude.{true, All, OnOk, vec_len, vec_capacity};
+ghost use Rattle.std.specs.Prelude.{◌≡◌, ◌<◌, Some, None, MatchOption, IfNone, true, All, OnOk};
+ghost use Rattle.std.specs.Prelude.{vec_len, vec_capacity};
 ghost use Rattle.bisect.specs.Trees.{tree_of};
+ghost use Rattle.box_deques.specs.Stealing.{CanSteal};
 ghost use Rattle.box_workers.specs.Fates.{IsFate};
 ghost use Rattle.box_workers.specs.Records.{IsEntered, IsRecord};
-ghost use Rattle.box_deques.specs.Stealing.{CanSteal};
 ghost use Rattle.box_workers.specs.Taking.{RoseAt};
 
 use crate::fate::{Fate, Held, HeldWhy, finish_box};

@@ -1,20 +1,18 @@
 //! What all workers of a run share.
 ghost use Rattle.std.specs.Prelude.{◌≡◌, ◌≤◌, ℕ, List, IfOk, MatchOption, length, [], None, IsTrue};
 ghost use Rattle.std.specs.Prelude.{false, ◌<◌, ◌+◌};
-ghost use Rattle.accounts.specs.box_tree.Paths.{IsChild, IsPathOf};
-ghost use Rattle.box_workers.specs.Gathered.{Went, below, nothing};
+ghost use Rattle.box_tree.specs.Paths.{IsChild, IsPathOf};
+ghost use Rattle.box_tree.specs.Pieces.{piece_count};
+ghost use Rattle.box_tree.specs.Plans.{cut_at};
 ghost use Rattle.bisect.specs.Trees.{children, tree_of};
 ghost use Rattle.bisect.specs.Walks.{IsListed, StaysWithin};
-ghost use Rattle.accounts.specs.box_tree.Pieces.{piece_count};
-ghost use Rattle.accounts.specs.box_tree.Plans.{cut_at};
+ghost use Rattle.box_workers.specs.Gathered.{Went, below, nothing};
 
 use crate::counts::Counts;
 use crate::record::Record;
 use crate::task::BoxTask;
-use accounts::Plan;
-use bisect::{
-    Cut, Posted, Settler, State, Verdict, Walk, boxes_are_listed, children, visit, walks_see,
-};
+use box_tree::{Plan, Cut};
+use bisect::{Posted, Settler, State, Verdict, Walk, boxes_are_listed, children, visit, walks_see};
 use fact_board::{Board, Token};
 use fx_edge::{Gate, Path};
 use std::alloc::{AllocError, Global};
@@ -36,7 +34,7 @@ pub struct Site<'a, S: Settler, G: Gate> {
 impl<'a, S: Settler, G: Gate> Model for Site<'a, S, G> {
     ghost use Rattle.std.specs.Prelude.{◌≡◌, ℕ, List};
     ghost use Rattle.boxcar.specs.Table.{Shelves, shelves_coded};
-    ghost use Rattle.accounts.specs.box_tree.Plans.{cut_at};
+    ghost use Rattle.box_tree.specs.Plans.{cut_at};
 
     ghost Value = { Shelves };
 

@@ -1,7 +1,7 @@
 //! A box that waits, with the token of its parent's entry.
 ghost use Rattle.std.specs.Prelude.{◌≡◌, ◌<◌, [], ◌∷◌, ◌++◌, length, Some, None};
-ghost use Rattle.accounts.specs.box_tree.Paths.{IsPathOf};
-ghost use Rattle.accounts.specs.box_tree.Pieces.{piece_count};
+ghost use Rattle.box_tree.specs.Paths.{IsPathOf};
+ghost use Rattle.box_tree.specs.Pieces.{piece_count};
 
 use bisect::Posted;
 use box_deques::Task;
@@ -20,8 +20,8 @@ pub struct BoxTask<E: Posted> {
 impl<E: Posted> Model for BoxTask<E> {
     ghost use Rattle.std.specs.Prelude.{◌≡◌, [], MatchOption};
     ghost use Rattle.box_workers.specs.Seen as seen;
-    ghost use Rattle.accounts.specs.box_tree.Paths.{IsPathOf, IsChild};
-    ghost use Rattle.accounts.specs.box_tree.Pieces.{piece_count};
+    ghost use Rattle.box_tree.specs.Paths.{IsPathOf, IsChild};
+    ghost use Rattle.box_tree.specs.Pieces.{piece_count};
 
     ghost Value = { seen.BoxTask E };
 

@@ -1,16 +1,16 @@
 //! One worker's loop, with all that it needs named.
 ghost use Rattle.std.specs.Prelude.{◌≡◌, ℕ, List, Some, IfNone, true, All};
+ghost use Rattle.box_tree.specs.Plans.{cut_at};
 ghost use Rattle.bisect.specs.Trees.{tree_of};
-ghost use Rattle.accounts.specs.box_tree.Plans.{cut_at};
-ghost use Rattle.box_workers.specs.Records.{IsRecord};
 ghost use Rattle.box_deques.specs.Stealing.{CanSteal};
+ghost use Rattle.box_workers.specs.Records.{IsRecord};
 ghost use Rattle.box_workers.specs.Taking.{RoseAt};
 
 use crate::counts::Counts;
 use crate::record::{Record, work_at};
 use crate::site::Site;
 use crate::task::BoxTask;
-use accounts::Plan;
+use box_tree::Plan;
 use bisect::{Posted, Settler};
 use box_deques::{Hand, Lane, Naming, Thief};
 use fact_board::Board;

@@ -1,16 +1,16 @@
 -- The line over the leaves of all trees holds of what one leaf's fact holds of.
-use Rattle.std.specs.Prelude.{◌≡◌, ◌<◌, ◌++◌, ◌↔◌, ℕ, zero, suc, List, [], ◌∷◌, length}
-use Rattle.std.specs.Prelude.{Some, slice_get, slice_index_or, refl}
+use Rattle.std.specs.Prelude.{◌≡◌, ◌<◌, ◌++◌, ◌↔◌, ℕ, zero, suc, List, [], ◌∷◌, length, Some}
+use Rattle.std.specs.Prelude.{slice_get, slice_index_or, refl}
 use Rattle.std.specs.List.{Contains}
 use Rattle.std.proofs.Common.{sym, ◌∙◌, ap, subst, arith}
 use Rattle.fx_model.specs.Expression.{Assignment}
 use Rattle.fx_model.specs.declared.Node.{Node}
-use Rattle.bisect.specs.facts.declared.fact.Fact.{Fact}
-use Rattle.bisect.specs.facts.declared.fact.Slot.{Slot}
-use Rattle.bisect.specs.facts.Holds.{Holds}
-use Rattle.bisect.specs.facts.Order.{slot_of}
-use Rattle.bisect.specs.goals.declared.line.Line.{Line}
-use Rattle.bisect.specs.goals.Holds.{LineHolds, IsOfGoal, LineHoldsFirst, LineHoldsOn}
+use Rattle.facts.specs.declared.fact.Fact.{Fact}
+use Rattle.facts.specs.declared.fact.Slot.{Slot}
+use Rattle.facts.specs.Holds.{Holds}
+use Rattle.facts.specs.Order.{slot_of}
+use Rattle.goals.specs.declared.line.Line.{Line}
+use Rattle.goals.specs.Holds.{LineHolds, IsOfGoal, LineHoldsFirst, LineHoldsOn}
 use Rattle.bisect.specs.declared.settler.State.{State}
 use Rattle.bisect.specs.declared.settler.State.TheVariants as state
 use Rattle.bisect.specs.declared.outcome.Leaf.{Leaf}

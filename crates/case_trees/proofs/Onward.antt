@@ -4,9 +4,9 @@ use Rattle.std.specs.Prelude.{None, refl}
 use Rattle.std.specs.List.{AllByRecursion}
 use Rattle.std.proofs.Common.{sym, ◌∙◌, ap, arith, append_assoc}
 use Rattle.std.proofs.lemmas.List.{append-nil}
+use Rattle.box_tree.specs.Paths.{no_more}
 use Rattle.bisect.specs.declared.outcome.Outcome.{Outcome}
 use Rattle.bisect.specs.declared.outcome.Outcome.TheVariants as outcome
-use Rattle.bisect.specs.box_tree.Paths.{no_more}
 use Rattle.bisect.specs.Trees.{Tree}
 use Rattle.bisect.specs.Boxes.{AreBoxes, leaves_of}
 use Rattle.bisect.specs.Answers.{IsAnswer, IsAnswerOf}

@@ -3,11 +3,11 @@ use Rattle.std.specs.Prelude.{◌≡◌, ◌≢◌, ◌<◌, ◌≤◌, ◌⊎�
 use Rattle.std.specs.List.{AllByRecursion}
 use Rattle.fx_model.specs.Expression.{Assignment}
 use Rattle.fx_model.specs.declared.Node.{Node}
-use Rattle.bisect.specs.facts.declared.fact.Fact.{Fact}
-use Rattle.bisect.specs.facts.declared.fact.Slot.{Slot}
-use Rattle.bisect.specs.facts.Holds.{Holds}
-use Rattle.bisect.specs.facts.Order.{slot_of}
-use Rattle.bisect.specs.goals.Holds.{LineHolds, IsOfGoal}
+use Rattle.facts.specs.declared.fact.Fact.{Fact}
+use Rattle.facts.specs.declared.fact.Slot.{Slot}
+use Rattle.facts.specs.Holds.{Holds}
+use Rattle.facts.specs.Order.{slot_of}
+use Rattle.goals.specs.Holds.{LineHolds, IsOfGoal}
 use Rattle.bisect.specs.declared.settler.State.TheVariants as state
 use Rattle.bisect.specs.declared.outcome.Outcome.{Outcome}
 use Rattle.bisect.specs.declared.outcome.Outcome.TheVariants as outcome

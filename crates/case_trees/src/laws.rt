@@ -1,8 +1,8 @@
 //! What holds of the answers of several trees, for callers to cite. Nothing here is done at run
 //! time.
 ghost use Rattle.std.specs.Prelude.{◌≡◌, ◌≤◌, ℕ, List, length};
-ghost use Rattle.bisect.specs.box_tree.declared.cut.Cut.{Cut};
-ghost use Rattle.bisect.specs.box_tree.Pieces.{piece_count};
+ghost use Rattle.box_tree.specs.declared.cut.Cut.{Cut};
+ghost use Rattle.box_tree.specs.Pieces.{piece_count};
 ghost use Rattle.bisect.specs.declared.settler.State.{State};
 ghost use Rattle.bisect.specs.Trees.{tree_of};
 ghost use Rattle.case_trees.specs.Gathered.{HasBoxes};
@@ -10,7 +10,8 @@ ghost use Rattle.case_trees.specs.Laws.{AnswersAreWithin, FirstIsFirst, GoesOn, 
 ghost use Rattle.case_trees.specs.Laws.{LinesHoldOfEach, NoneIsOpen, OneIsAll, StartsFromNothing};
 ghost use Rattle.case_trees.specs.Laws.{StopsAtEnd, StopsAtNone, StopsOver};
 
-use bisect::{answers_are_told, boxes_are_listed, lines_hold, one_answer};
+use bisect::{answers_are_told, boxes_are_listed, one_answer};
+use goals::lines_hold;
 
 /// Nothing is done. The clauses tell a caller that several trees have one answer under a limit, and
 /// that what one tree comes to is the answer of it alone.

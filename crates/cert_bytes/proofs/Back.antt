@@ -1,4 +1,5 @@
 -- Reading gives back what was spelled: bytes and numbers.
+use mir.ValLaws.{of_z_fits}
 use Rattle.std.proofs.Common.{◌≡◌, ◌≤◌, ◌<◌, ◌+◌, ◌-◌, ◌*◌, ◌/◌, ◌%◌, ◌^◌, ◌++◌, ◌∷◌, [], ◌==◌}
 use Rattle.std.proofs.Common.{◌&&◌, if◌then◌else◌, ⊎_elim, ℕ, zero, suc, ℤ, pos, negsuc, ◌≤ℤ◌, true}
 use Rattle.std.proofs.Common.{false, List, length, Option, Some, Result, Ok, refl, sym, ap, ap₂}
@@ -12,15 +13,14 @@ use Rattle.std.proofs.Math.Nat.{mod-eq_of_lt}
 use Rattle.std.proofs.lemmas.Bool.{cases_lt}
 use Rattle.std.proofs.lemmas.Int.{ints, to_z-of_z, fits_signed_from_abs}
 use Rattle.std.proofs.lemmas.List.{length-append}
-use mir.ValLaws.{of_z_fits}
 use Rattle.fx_model.specs.declared.ExprId.{ExprId}
 use Rattle.cert_bytes.specs.declared.fault.CertFault.{CertFault}
 use Rattle.cert_bytes.specs.declared.style.Seen.{Seen}
 use Rattle.cert_bytes.specs.declared.style.Style.{Style}
 use Rattle.cert_bytes.specs.declared.style.Style.TheVariants.{First, Second}
 use Rattle.cert_bytes.specs.Reading.{Cursor, Read, numbered, byte_at, bytes_at, number_at}
-use Rattle.cert_bytes.specs.Reading.{ended_with, digits_at, limited_at, based_at, sized_at}
-use Rattle.cert_bytes.specs.Reading.{tiny_at, short_at, long_at, reference_at, wide_at, unzigzag}
+use Rattle.cert_bytes.specs.Reading.{ended_with, digits_at, limited_at, based_at, sized_at, tiny_at}
+use Rattle.cert_bytes.specs.Reading.{short_at, long_at, reference_at, wide_at, unzigzag}
 use Rattle.cert_bytes.specs.Reading.{signed_short_at, signed_long_at, expr_at, both_at, pair_at}
 use Rattle.cert_bytes.specs.Reading.{◌>>=◌}
 use Rattle.cert_bytes.specs.ReadBack.{place, ReadsTo, ReadsBack}

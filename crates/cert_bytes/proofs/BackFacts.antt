@@ -5,20 +5,20 @@ use Rattle.std.specs.Int.{w16, w64}
 use Rattle.std.specs.Int.RustNames.{FitsSigned}
 use Rattle.std.proofs.lemmas.Int.{ints, fits_signed_from_abs}
 use Rattle.fx_model.specs.declared.ExprId.{ExprId}
-use Rattle.facts.specs.dyadic.declared.number.Dyadic.{Dyadic}
-use Rattle.facts.specs.dyadic.declared.number.End.{End}
-use Rattle.facts.specs.dyadic.declared.number.End.TheVariants.{Low, At, High}
-use Rattle.facts.specs.interval.declared.interval.Interval.{Interval}
-use Rattle.facts.specs.interval.Meets.{interval_from, interval_from_self}
+use Rattle.dyadic.specs.declared.number.Dyadic.{Dyadic}
+use Rattle.dyadic.specs.declared.number.End.{End}
+use Rattle.dyadic.specs.declared.number.End.TheVariants.{Low, At, High}
+use Rattle.interval.specs.declared.interval.Interval.{Interval}
+use Rattle.interval.specs.Meets.{interval_from, interval_from_self}
 use Rattle.facts.specs.declared.relative.RelativeError.{RelativeError}
 use Rattle.facts.specs.declared.size.Size.{Size}
 use Rattle.facts.specs.declared.place.FixPlace.{FixPlace}
 use Rattle.facts.specs.declared.fact.Fact.{Fact}
 use Rattle.facts.specs.declared.fact.Fact.TheVariants as fact
 use Rattle.facts.specs.Parts.{size_from, size_from_self, error_from, error_from_self}
+use Rattle.facts.specs.Places.{place_from, place_from_self}
 use Rattle.cert_bytes.specs.Certificates.{IsOnShort}
 use Rattle.cert_bytes.specs.declared.fault.CertKind.TheVariants.{BadTag}
-use Rattle.facts.specs.Places.{place_from, place_from_self}
 use Rattle.cert_bytes.specs.Numbers.{number_from, number_from_self}
 use Rattle.cert_bytes.specs.Reading.{Cursor, Read, fault, numbered, byte_at, signed_short_at}
 use Rattle.cert_bytes.specs.Reading.{signed_long_at, expr_at, both_at, pair_at, point_at, end_at}

@@ -1,7 +1,7 @@
 -- A fault of the tag, or of what stands behind it, is that of the whole; and so for two ends.
 use Rattle.std.proofs.Common.{◌≡◌, ℕ, Ok, Err, refl}
+use Rattle.dyadic.specs.declared.number.End.{End}
 use Rattle.cert_bytes.specs.declared.fault.CertFault.{CertFault}
-use Rattle.facts.specs.dyadic.declared.number.End.{End}
 use Rattle.cert_bytes.specs.Reading.{Cursor, byte_at, expr_at, pair_at, both_at, end_at}
 use Rattle.cert_bytes.specs.Reading.{interval_at, size_at, relative_at, error_at, place_at, bnd_at}
 use Rattle.cert_bytes.specs.Reading.{abs_at, rel_at, fix_at, nzr_at, fact_at}

@@ -2,9 +2,9 @@
 use Rattle.std.proofs.Common.{◌≡◌, ℤ, Some, None, sym, ap, ap₂, ◌∙◌}
 use Rattle.fx_model.specs.Powers.{scaled}
 use Rattle.fx_model.specs.Grid.{IsOnGrid}
-use Rattle.facts.specs.dyadic.declared.number.Dyadic.{Dyadic}
-use Rattle.facts.specs.dyadic.Values.{value_of, same_value}
-use Rattle.facts.specs.dyadic.Canonical.{canonical_on_grid}
+use Rattle.dyadic.specs.declared.number.Dyadic.{Dyadic}
+use Rattle.dyadic.specs.Values.{value_of, same_value}
+use Rattle.dyadic.specs.Canonical.{canonical_on_grid}
 use Rattle.cert_bytes.specs.Numbers.{number_from, number_from-none, number_from_self}
 
 pub kept_some : (m e : ℤ) (d : Dyadic) → d.mantissa ≡ m → d.exponent ≡ e → Some d ≡ number_from m e

@@ -11,8 +11,8 @@ use Rattle.std.proofs.Math.Path.{fun_ext}
 use Rattle.std.proofs.lemmas.Nat.{div-mul-add}
 use Rattle.std.proofs.lemmas.Int.{of_z-to_z}
 use Rattle.std.proofs.lemmas.Bool.{eqb-true}
-use Rattle.expr_dag.specs.literal.Tens.{pow_positive}
 use Rattle.fx_model.specs.declared.ExprId.{ExprId}
+use Rattle.literal.specs.Tens.{pow_positive}
 use Rattle.cert_bytes.specs.declared.fault.CertFault.{CertFault}
 use Rattle.cert_bytes.specs.declared.fault.CertKind.{CertKind}
 use Rattle.cert_bytes.specs.declared.fault.CertKind.TheVariants.{TooLong}

@@ -7,9 +7,9 @@ use Rattle.std.proofs.lemmas.List.{append-nil}
 use Rattle.std.proofs.lemmas.Bool.{cases_lt, eqb-false}
 use Rattle.fx_model.specs.Fraction.{◌<ℚ◌, lt_le, le_lt_trans}
 use Rattle.fx_model.specs.declared.ExprId.{ExprId}
-use Rattle.facts.specs.dyadic.declared.number.Dyadic.{Dyadic}
-use Rattle.facts.specs.dyadic.Values.{value_of}
-use Rattle.facts.specs.dyadic.Rising.{point_of, IsRising, IsAboveLast, rising_more}
+use Rattle.dyadic.specs.declared.number.Dyadic.{Dyadic}
+use Rattle.dyadic.specs.Values.{value_of}
+use Rattle.dyadic.specs.Rising.{point_of, IsRising, IsAboveLast, rising_more}
 use Rattle.cert_bytes.specs.declared.fault.CertKind.TheVariants.{BadNumber}
 use Rattle.cert_bytes.specs.declared.item.Item.{Item}
 use Rattle.cert_bytes.specs.declared.item.Item.TheVariants as item

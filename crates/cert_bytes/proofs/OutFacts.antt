@@ -1,10 +1,10 @@
 -- What is read is what was spelled: numbers of the grid, intervals and facts.
 use Rattle.std.proofs.Common.{◌≡◌, ℕ, Option, Some, None, refl, sym, ap, ap₂, ◌∙◌}
-use Rattle.facts.specs.dyadic.declared.number.Dyadic.{Dyadic}
-use Rattle.facts.specs.dyadic.declared.number.End.{End}
-use Rattle.facts.specs.dyadic.declared.number.End.TheVariants.{Low, At, High}
-use Rattle.facts.specs.interval.declared.interval.Interval.{Interval}
-use Rattle.facts.specs.interval.Meets.{interval_from, interval_from_out}
+use Rattle.dyadic.specs.declared.number.Dyadic.{Dyadic}
+use Rattle.dyadic.specs.declared.number.End.{End}
+use Rattle.dyadic.specs.declared.number.End.TheVariants.{Low, At, High}
+use Rattle.interval.specs.declared.interval.Interval.{Interval}
+use Rattle.interval.specs.Meets.{interval_from, interval_from_out}
 use Rattle.facts.specs.declared.relative.RelativeError.{RelativeError}
 use Rattle.facts.specs.declared.size.Size.{Size}
 use Rattle.facts.specs.declared.place.FixPlace.{FixPlace}

@@ -11,8 +11,8 @@ use Rattle.fx_model.specs.declared.Direction.TheVariants.{Zr, Aw, Dn, Up, Od, Ne
 use Rattle.fx_model.specs.declared.Direction.TheVariants.{Nu}
 use Rattle.fx_model.specs.declared.Node.{Node}
 use Rattle.fx_model.specs.declared.Node.TheVariants as node
-use Rattle.expr_dag.specs.literal.Spelling.{IsBetween}
-use Rattle.expr_dag.specs.literal.Normal.{IsNormal}
+use Rattle.literal.specs.Spelling.{IsBetween}
+use Rattle.literal.specs.Normal.{IsNormal}
 use Rattle.expr_dag.specs.Nodes.{IsInLimits}
 use Rattle.cert_bytes.specs.declared.fault.CertKind.TheVariants.{BadNumber, BadTag}
 use Rattle.cert_bytes.specs.Certificates.{HasShortParts}

@@ -3,12 +3,12 @@ use Rattle.std.proofs.Common.{◌≡◌, ◌≤◌, ◌<◌, ◌-◌, ◌++◌, 
 use Rattle.std.proofs.Common.{List, length, drop, Result, Ok, Err, refl, sym, ap, subst, ◌∙◌, arith}
 use Rattle.std.specs.Prelude.{not}
 use Rattle.fx_model.specs.Fraction.{le_ℚ, ◌<ℚ◌}
-use Rattle.facts.specs.dyadic.declared.number.Dyadic.{Dyadic}
-use Rattle.facts.specs.dyadic.Values.{value_of}
-use Rattle.facts.specs.dyadic.Rising.{point_of, IsAboveLast}
+use Rattle.dyadic.specs.declared.number.Dyadic.{Dyadic}
+use Rattle.dyadic.specs.Values.{value_of}
+use Rattle.dyadic.specs.Rising.{point_of, IsAboveLast}
+use Rattle.facts.specs.declared.fact.Fact.{Fact}
 use Rattle.cert_bytes.specs.declared.fault.CertFault.{CertFault}
 use Rattle.cert_bytes.specs.declared.fault.CertKind.TheVariants.{BadNumber}
-use Rattle.facts.specs.declared.fact.Fact.{Fact}
 use Rattle.cert_bytes.specs.Reading.{Cursor, cursor, claim_at, cited_at, step_at, point_at}
 use Rattle.cert_bytes.specs.Reading.{reference_at, references_at, rising_at, points_at, rises}
 use Rattle.cert_bytes.specs.Reading.{more_at, is_some, ◌>>=◌}

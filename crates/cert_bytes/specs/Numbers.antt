@@ -11,10 +11,10 @@ use Rattle.std.proofs.lemmas.Bool.{or_left, or_cases}
 use Rattle.std.proofs.lemmas.Bool.Decides.{Decides-int_eq}
 use Rattle.std.proofs.lemmas.Nat.{pow_pos}
 use Rattle.std.proofs.Math.Nat.{mul-le-mul_left}
-use Rattle.facts.specs.interval.Decided.{made, made-some, made-none, made_out}
-use Rattle.facts.specs.dyadic.declared.number.Dyadic.{Dyadic}
-use Rattle.facts.specs.dyadic.Canonical.{IsCanonical, IsCanonical-prop, IsReduced}
 use Rattle.fx_model.specs.declared.Literal.{Literal}
+use Rattle.dyadic.specs.declared.number.Dyadic.{Dyadic}
+use Rattle.dyadic.specs.Canonical.{IsCanonical, IsCanonical-prop, IsReduced}
+use Rattle.interval.specs.Decided.{made, made-some, made-none, made_out}
 
 -- ---- tests
 

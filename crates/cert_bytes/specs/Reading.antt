@@ -14,13 +14,13 @@ use Rattle.fx_model.specs.declared.Rounding.{Rounding}
 use Rattle.fx_model.specs.declared.Direction.{Direction}
 use Rattle.fx_model.specs.declared.Direction.TheVariants.{Zr, Aw, Dn, Up, Od, Ne, No, Nz, Na, Nd}
 use Rattle.fx_model.specs.declared.Direction.TheVariants.{Nu}
-use Rattle.facts.specs.dyadic.declared.number.Dyadic.{Dyadic}
-use Rattle.facts.specs.dyadic.declared.number.End.{End}
-use Rattle.facts.specs.dyadic.declared.number.End.TheVariants.{Low, At, High}
-use Rattle.facts.specs.dyadic.Values.{value_of}
-use Rattle.facts.specs.dyadic.Rising.{point_of}
-use Rattle.facts.specs.interval.declared.interval.Interval.{Interval}
-use Rattle.facts.specs.interval.Meets.{interval_from}
+use Rattle.dyadic.specs.declared.number.Dyadic.{Dyadic}
+use Rattle.dyadic.specs.declared.number.End.{End}
+use Rattle.dyadic.specs.declared.number.End.TheVariants.{Low, At, High}
+use Rattle.dyadic.specs.Values.{value_of}
+use Rattle.dyadic.specs.Rising.{point_of}
+use Rattle.interval.specs.declared.interval.Interval.{Interval}
+use Rattle.interval.specs.Meets.{interval_from}
 use Rattle.facts.specs.declared.relative.RelativeError.{RelativeError}
 use Rattle.facts.specs.declared.size.Size.{Size}
 use Rattle.facts.specs.declared.place.FixPlace.{FixPlace}

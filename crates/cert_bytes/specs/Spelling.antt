@@ -11,10 +11,10 @@ use Rattle.fx_model.specs.declared.Node.TheVariants.{Var, Lit, Neg, Add, Sub, Mu
 use Rattle.fx_model.specs.declared.Direction.{Direction}
 use Rattle.fx_model.specs.declared.Direction.TheVariants.{Zr, Aw, Dn, Up, Od, Ne, No, Nz, Na, Nd}
 use Rattle.fx_model.specs.declared.Direction.TheVariants.{Nu}
-use Rattle.facts.specs.dyadic.declared.number.Dyadic.{Dyadic}
-use Rattle.facts.specs.dyadic.declared.number.End.{End}
-use Rattle.facts.specs.dyadic.declared.number.End.TheVariants.{Low, At, High}
-use Rattle.facts.specs.interval.declared.interval.Interval.{Interval}
+use Rattle.dyadic.specs.declared.number.Dyadic.{Dyadic}
+use Rattle.dyadic.specs.declared.number.End.{End}
+use Rattle.dyadic.specs.declared.number.End.TheVariants.{Low, At, High}
+use Rattle.interval.specs.declared.interval.Interval.{Interval}
 use Rattle.facts.specs.declared.relative.RelativeError.{RelativeError}
 use Rattle.facts.specs.declared.fact.Fact.{Fact}
 use Rattle.facts.specs.declared.fact.Fact.TheVariants as fact

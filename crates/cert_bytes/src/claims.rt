@@ -6,7 +6,9 @@ use crate::fault::{CertKind, Stop, fault};
 use crate::field::Field;
 use crate::kept::number_from;
 use crate::source::Source;
-use facts::{Dyadic, End, Fact, FixPlace, Interval, RelativeError, Size};
+use dyadic::{Dyadic, End};
+use facts::{Fact, FixPlace, RelativeError, Size};
+use interval::Interval;
 use fx_edge::Folder;
 use fx_model::ExprId;
 

@@ -1,7 +1,7 @@
 //! The points of a cut, behind a pointer.
 ghost use Rattle.std.specs.Prelude.{◌≡◌, IfOk};
 
-use facts::Points;
+use dyadic::Points;
 use std::alloc::{AllocError, Global};
 use std::marker::Model;
 
@@ -14,7 +14,7 @@ pub struct CutPoints {
 
 impl Model for CutPoints {
     ghost use Rattle.std.specs.Prelude.{List};
-    ghost use Rattle.facts.specs.dyadic.declared.number.Dyadic.{Dyadic};
+    ghost use Rattle.dyadic.specs.declared.number.Dyadic.{Dyadic};
 
     ghost Value = { List Dyadic };
 

@@ -1,8 +1,8 @@
 //! What the values of a type are read as, said once for all of them.
 ghost use Rattle.std.specs.Prelude.{◌≡◌, ◌<◌, ℕ, List, Some, IfOk, IsErrOf};
+ghost use Rattle.fx_edge.specs.OnlyReads.{OnlyReads};
 ghost use Rattle.cert_bytes.specs.Reading.{Cursor, Read, both_at};
 ghost use Rattle.cert_bytes.specs.Pieces.{Gives, AgreesTold, kept_of};
-ghost use Rattle.fx_edge.specs.OnlyReads.{OnlyReads};
 ghost use Rattle.cert_bytes.specs.Calls.{ReadsOn};
 
 use crate::fault::Stop;

@@ -1,7 +1,7 @@
 //! That the numbers of an item have room in their fields, which their types keep.
 ghost use Rattle.std.specs.Prelude.{◌≤◌, length, IfSome};
 ghost use Rattle.std.specs.List.{AllByRecursion};
-ghost use Rattle.facts.specs.dyadic.Rising.{IsRising};
+ghost use Rattle.dyadic.specs.Rising.{IsRising};
 ghost use Rattle.cert_bytes.specs.Certificates.{Fits, HasRoomFor, HasShortParts, IsLong, IsOnShort};
 
 use crate::cut_points::CutPoints;

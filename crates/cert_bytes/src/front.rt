@@ -1,11 +1,11 @@
 //! What stands before the first section and behind the last, read through a folder.
 ghost use Rattle.std.specs.Prelude.{◌<◌, ◌≡◌, ℕ, List, Some, IsErrOf, IfOk, true};
+ghost use Rattle.fx_edge.specs.OnlyReads.{OnlyReads};
 ghost use Rattle.cert_bytes.specs.Reading.{magic_at, version_at, preamble_at, head_at, mark_at};
 ghost use Rattle.cert_bytes.specs.Certificates.{HasSpelling};
 ghost use Rattle.cert_bytes.specs.Due.{is_nodes, is_mark};
 ghost use Rattle.cert_bytes.specs.Styles.{Opens};
 ghost use Rattle.cert_bytes.specs.Pieces.{Gives, AgreesTold, kept_of, name_of};
-ghost use Rattle.fx_edge.specs.OnlyReads.{OnlyReads};
 ghost use Rattle.cert_bytes.specs.Calls.{ReadsOn};
 
 use crate::fault::{CertKind, Stop, fault};

@@ -2,7 +2,7 @@
 ghost use Rattle.std.specs.Prelude.{◌≡◌, ◌↔◌, IsTrue, ◌-◌, ◌<◌, negsuc};
 ghost use Rattle.cert_bytes.specs.Numbers as spec;
 
-use facts::Dyadic;
+use dyadic::Dyadic;
 use fx_model::Literal;
 
 // Whether the number has this mantissa and exponent.

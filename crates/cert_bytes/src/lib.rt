@@ -2,8 +2,6 @@
 //! fail.
 #![tactic(auto, using(crate::proofs::Fronts::front_then, crate::proofs::Fronts::same_front))]
 
-// What callers name of the crates below.
-pub use expr_dag::{Dag, DagFault, Node, values_stay};
 
 mod based;
 mod claims;

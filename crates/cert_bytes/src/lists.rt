@@ -1,16 +1,16 @@
 //! Lists of numbers and of points, read through a folder.
 ghost use Rattle.std.specs.Prelude.{◌≡◌, ◌≤◌, ◌<◌, ◌+◌, ℕ, [], List, Some, length, IsErrOf, IfOk};
+ghost use Rattle.fx_edge.specs.OnlyReads.{OnlyReads};
 ghost use Rattle.cert_bytes.specs.Reading.{references_at, counted_at, optional_at, count_at};
 ghost use Rattle.cert_bytes.specs.Reading.{rising_at, points_at};
 ghost use Rattle.cert_bytes.specs.Certificates.{IsCounted};
 ghost use Rattle.cert_bytes.specs.Pieces.{Gives, AgreesTold, kept_of};
-ghost use Rattle.fx_edge.specs.OnlyReads.{OnlyReads};
 ghost use Rattle.cert_bytes.specs.Calls.{ReadsOn};
 
 use crate::fault::{CertKind, Stop, fault};
 use crate::field::Field;
 use crate::source::Source;
-use facts::{Dyadic, Points};
+use dyadic::{Dyadic, Points};
 use fx_edge::{Folder, Items};
 
 impl Source {

@@ -1,12 +1,12 @@
 //! Nodes, read through a folder.
 ghost use Rattle.std.specs.Prelude.{◌≡◌, pos, negsuc, ℕ, List, Some, IsErrOf, IfOk};
-ghost use Rattle.expr_dag.specs.literal.Spelling.{IsBetween};
-ghost use Rattle.expr_dag.specs.literal.Normal.{IsNormal};
+ghost use Rattle.literal.specs.Spelling.{IsBetween};
+ghost use Rattle.literal.specs.Normal.{IsNormal};
 ghost use Rattle.expr_dag.specs.Nodes.{IsInLimits};
+ghost use Rattle.fx_edge.specs.OnlyReads.{OnlyReads};
 ghost use Rattle.cert_bytes.specs.Reading.{direction_from, direction_at, lsb_at, literal_at};
 ghost use Rattle.cert_bytes.specs.Reading.{rounding_at, late_node_at, node_by, node_at};
 ghost use Rattle.cert_bytes.specs.Pieces.{Gives, AgreesTold, kept_of};
-ghost use Rattle.fx_edge.specs.OnlyReads.{OnlyReads};
 ghost use Rattle.cert_bytes.specs.Calls.{ReadsOn};
 
 use crate::fault::{CertKind, Stop, fault};

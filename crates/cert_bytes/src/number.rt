@@ -1,11 +1,11 @@
 //! Numbers, read through a folder.
 ghost use Rattle.std.specs.Prelude.{◌+◌, ◌≡◌, ◌≤◌, ◌<◌, ◌^◌, ℕ, List, Some, IfOk, IfSome, IsErrOf};
+ghost use Rattle.fx_edge.specs.OnlyReads.{OnlyReads};
 ghost use Rattle.cert_bytes.specs.Reading.{byte_at, number_at, limited_at, based_at, sized_at};
 ghost use Rattle.cert_bytes.specs.Reading.{tiny_at, short_at, long_at, reference_at, wide_at};
 ghost use Rattle.cert_bytes.specs.Reading.{signed_short_at, signed_long_at, expr_at};
 ghost use Rattle.cert_bytes.specs.Pieces.{Gives, Agrees, AgreesTold, kept_of, cursor_of, HasAhead};
 ghost use Rattle.cert_bytes.specs.Widths.{IsByteLimit, AreWidths, HasBegun};
-ghost use Rattle.fx_edge.specs.OnlyReads.{OnlyReads};
 ghost use Rattle.cert_bytes.specs.Calls.{ReadsOn};
 
 use crate::based::{ended_near, ended_with, signed_long_by, signed_short_by, step_by};

@@ -1,5 +1,6 @@
 //! The item that is due, read through a folder.
 ghost use Rattle.std.specs.Prelude.{◌≡◌, ◌<◌, ℕ, List, Some, IsErrOf, IfOk, true};
+ghost use Rattle.fx_edge.specs.OnlyReads.{OnlyReads};
 ghost use Rattle.cert_bytes.specs.Reading.{more_at, end_item_at, same_count_at, counts_at};
 ghost use Rattle.cert_bytes.specs.Reading.{trailer_at, closed_at, node_or_marks_at};
 ghost use Rattle.cert_bytes.specs.Reading.{mark_or_section_at, section_or_end_at, entry_at};
@@ -8,7 +9,6 @@ ghost use Rattle.cert_bytes.specs.declared.item.Item.TheVariants as item;
 ghost use Rattle.cert_bytes.specs.Due.{is_due, is_end};
 ghost use Rattle.cert_bytes.specs.Certificates.{HasSpelling};
 ghost use Rattle.cert_bytes.specs.Pieces.{Gives, AgreesTold, kept_of, name_of};
-ghost use Rattle.fx_edge.specs.OnlyReads.{OnlyReads};
 ghost use Rattle.cert_bytes.specs.Calls.{ReadsOn};
 
 use crate::fault::{CertKind, Stop, fault};

@@ -1,11 +1,11 @@
 //! A certificate, read item by item.
 ghost use Rattle.std.specs.Prelude.{◌≡◌, ℕ, List, Option, Some, None, IfOk, IsErrOf, true};
+ghost use Rattle.fx_edge.specs.OnlyReads.{OnlyReads};
 ghost use Rattle.cert_bytes.specs.Reading.{item_at};
 ghost use Rattle.cert_bytes.specs.Pieces.{Gives, AgreesTold};
 ghost use Rattle.cert_bytes.specs.Due.{is_due};
 ghost use Rattle.cert_bytes.specs.Readers.{Progress, Answers, StandsBehind, fresh};
 ghost use Rattle.cert_bytes.specs.Certificates.{HasSpelling};
-ghost use Rattle.fx_edge.specs.OnlyReads.{OnlyReads};
 
 use crate::fault::{CertFault, Stop};
 use crate::item::Item;

@@ -1,11 +1,11 @@
 //! Items of sections, read through a folder.
 ghost use Rattle.std.specs.Prelude.{◌≡◌, ◌≤◌, ◌<◌, ℕ, List, Some, IsErrOf, IfOk, true};
+ghost use Rattle.fx_edge.specs.OnlyReads.{OnlyReads};
 ghost use Rattle.cert_bytes.specs.Reading.{step_at, cut_head_at, cut_at, section_by};
 ghost use Rattle.cert_bytes.specs.Reading.{section_item_at, case_count_at, root_by, root_item_at};
 ghost use Rattle.cert_bytes.specs.Due.{is_of_section, is_of_root};
 ghost use Rattle.cert_bytes.specs.Certificates.{HasSpelling, IsCounted};
 ghost use Rattle.cert_bytes.specs.Pieces.{Gives, AgreesTold, kept_of};
-ghost use Rattle.fx_edge.specs.OnlyReads.{OnlyReads};
 ghost use Rattle.cert_bytes.specs.Calls.{ReadsOn};
 
 use crate::cut_points::CutPoints;

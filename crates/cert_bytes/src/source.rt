@@ -1,10 +1,10 @@
 //! The bytes of a name, read through a folder one after the other.
 ghost use Rattle.std.specs.Prelude.{◌≡◌, ◌≤◌, ◌<◌, ◌+◌, ◌^◌, ◌↔◌, ◌∷◌, ℕ, List, [], Some, length};
 ghost use Rattle.std.specs.Prelude.{IfOk, IsTrue, IsErrOf, IsErr};
+ghost use Rattle.fx_edge.specs.OnlyReads.{OnlyReads};
 ghost use Rattle.cert_bytes.specs.Reading.{byte_at};
 ghost use Rattle.cert_bytes.specs.Pieces.{Gives, IsFilled, IsReady, IsEnd, IsFirst, IsLow, kept_of};
 ghost use Rattle.cert_bytes.specs.Pieces.{AgreesTold, HasAhead};
-ghost use Rattle.fx_edge.specs.OnlyReads.{OnlyReads};
 ghost use Rattle.cert_bytes.specs.Calls.{ReadsOn};
 
 use crate::fault::{CertFault, CertKind, Stop};

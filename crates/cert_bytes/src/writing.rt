@@ -1,8 +1,7 @@
 //! The one spelling of each item.
-ghost use Rattle.std.specs.Prelude.{pos, negsuc, ◌≤ℤ◌, ◌≡◌, ◌++◌, ◌≤◌, ◌∷◌, length, OnOk};
-ghost use Rattle.std.specs.Prelude.{OnErr};
+ghost use Rattle.std.specs.Prelude.{pos, negsuc, ◌≤ℤ◌, ◌≡◌, ◌++◌, ◌≤◌, ◌∷◌, length, OnOk, OnErr};
 ghost use Rattle.fx_model.specs.declared.ExprId.{ExprId};
-ghost use Rattle.expr_dag.specs.literal.Normal.{IsNormal};
+ghost use Rattle.literal.specs.Normal.{IsNormal};
 ghost use Rattle.expr_dag.specs.Nodes.{IsInLimits};
 ghost use Rattle.cert_bytes.specs.Spelling as spell;
 ghost use Rattle.cert_bytes.specs.declared.style.Style.TheVariants.{First, Second};
@@ -12,7 +11,9 @@ ghost use Rattle.cert_bytes.specs.Certificates.{HasSpelling, IsCounted};
 use crate::based::{distance, zigzag};
 use crate::item::{Item, StepRow};
 use crate::style::{Seen, Style};
-use facts::{Dyadic, End, Fact, HintMark, Interval, Points};
+use dyadic::{Dyadic, End, Points};
+use facts::{Fact, HintMark};
+use interval::Interval;
 use fx_model::{Direction, ExprId, Literal, Node};
 use std::alloc::AllocError;
 

@@ -5,17 +5,17 @@ use Rattle.std.specs.Prelude.{⊤, map}
 use Rattle.std.specs.List.{AllByRecursion}
 use Rattle.fx_model.specs.Expression.{Assignment, IsOrdered}
 use Rattle.fx_model.specs.declared.Node.{Node}
-use Rattle.goals.specs.facts.Holds.{Holds}
+use Rattle.facts.specs.Holds.{Holds}
+use Rattle.goals.specs.declared.goal.Goal.{Goal}
+use Rattle.goals.specs.declared.line.Line.TheVariants as line
+use Rattle.theorem_list.specs.Promises.{AreSound}
 use Rattle.cert_bytes.specs.declared.item.Item.{Item}
 use Rattle.cert_bytes.specs.declared.item.Item.TheVariants as item
 use Rattle.cert_bytes.specs.declared.order.DueItem.{DueItem}
 use Rattle.cert_bytes.specs.declared.order.DueItem.TheVariants.{Head, Nodes, Marks, Sections, Done}
-use Rattle.goals.specs.declared.goal.Goal.{Goal}
-use Rattle.goals.specs.declared.line.Line.TheVariants as line
 use Rattle.cert_checker.specs.Contexts.{Context, first, open_piece}
 use Rattle.cert_checker.specs.declared.subject.Subject.{Subject}
 use Rattle.cert_checker.specs.After.{after}
-use Rattle.theorem_list.specs.Promises.{AreSound}
 use Rattle.cert_checker.specs.Steps.{case_facts}
 use Rattle.cert_checker.specs.Accepted.{LeadsTo, AreInOrder}
 use Rattle.cert_checker.specs.Met.{MeetsOver, LinesHold, HoldsOverCertificates}

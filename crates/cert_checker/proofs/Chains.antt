@@ -2,12 +2,12 @@
 use Rattle.std.proofs.Common.{◌≡◌, ℕ, Result, Ok, Some, Err, subst, ◌∙◌}
 use Rattle.cert_bytes.specs.declared.item.StepRow.{StepRow}
 use Rattle.cert_bytes.specs.declared.item.Item.TheVariants as item
+use Rattle.cert_bytes.specs.declared.item.Item.{Item}
 use Rattle.cert_checker.specs.declared.fault.CheckFault.{CheckFault}
 use Rattle.cert_checker.specs.declared.fault.CheckFault.TheVariants.{BadCases}
 use Rattle.cert_checker.specs.declared.subject.Subject.{Subject}
 use Rattle.cert_checker.specs.Contexts.{Context, open_piece}
 use Rattle.cert_checker.specs.Steps.{case_facts}
-use Rattle.cert_bytes.specs.declared.item.Item.{Item}
 use Rattle.cert_checker.specs.declared.fault.TakeStop.{TakeStop}
 use Rattle.cert_checker.specs.declared.fault.TakeStop.TheVariants.{Check, OutOfMemory}
 use Rattle.cert_checker.specs.Faults.{JudgesContent, JudgesItem, JudgesStep, HasCases, IsJudged}

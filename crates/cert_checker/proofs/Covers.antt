@@ -3,15 +3,15 @@ use Rattle.std.proofs.Common.{◌≡◌, ◌≤◌, ◌<◌, ◌+◌, ◌-◌, �
 use Rattle.std.proofs.Common.{length, Some, refl, arith, ⊎_elim}
 use Rattle.fx_model.specs.Fraction.{Fraction, le_or_lt, lt_le}
 use Rattle.fx_model.specs.Enclosure.{Lies, IsFrom, IsUpTo, ordered_by}
-use Rattle.goals.specs.dyadic.declared.number.Dyadic.{Dyadic}
-use Rattle.goals.specs.dyadic.declared.number.End.{End}
-use Rattle.goals.specs.dyadic.declared.number.End.TheVariants.{At, High}
-use Rattle.goals.specs.dyadic.Values.{value_of}
-use Rattle.goals.specs.dyadic.Ends.{bound_of}
-use Rattle.goals.specs.dyadic.Rising.{point_of}
-use Rattle.goals.specs.interval.declared.interval.Interval.{Interval}
-use Rattle.goals.specs.interval.Intervals.{range_of}
-use Rattle.goals.specs.interval.Meets.{interval_from, interval_from-some}
+use Rattle.dyadic.specs.declared.number.Dyadic.{Dyadic}
+use Rattle.dyadic.specs.declared.number.End.{End}
+use Rattle.dyadic.specs.declared.number.End.TheVariants.{At, High}
+use Rattle.dyadic.specs.Values.{value_of}
+use Rattle.dyadic.specs.Ends.{bound_of}
+use Rattle.dyadic.specs.Rising.{point_of}
+use Rattle.interval.specs.declared.interval.Interval.{Interval}
+use Rattle.interval.specs.Intervals.{range_of}
+use Rattle.interval.specs.Meets.{interval_from, interval_from-some}
 use Rattle.cert_checker.specs.Contexts.{low_end, high_end, piece_of}
 
 -- the fraction lies in piece k

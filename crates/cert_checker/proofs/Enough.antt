@@ -2,15 +2,15 @@
 use Rattle.std.specs.Prelude.{◌≡◌, ◌⊎◌, Bool, true, false, Option, Some, None, refl}
 use Rattle.std.proofs.Common.{sym, ◌∙◌, ap, subst, inl, inr}
 use Rattle.fx_model.specs.declared.ExprId.{ExprId}
-use Rattle.goals.specs.facts.declared.fact.Fact.{Fact}
-use Rattle.goals.specs.facts.declared.fact.Fact.TheVariants as fact
-use Rattle.goals.specs.facts.declared.fact.Slot.{Slot}
-use Rattle.goals.specs.facts.declared.fact.Slot.TheVariants as slot
-use Rattle.goals.specs.facts.CommonParts.{expr_same, same_expr, void_is, void_cases}
-use Rattle.goals.specs.facts.Order.{slot_of, IsStronger, meet_of, is_same}
-use Rattle.goals.specs.facts.Laws.{IsStronger-trans, IsStronger-slot, meet_exists}
+use Rattle.facts.specs.declared.fact.Fact.{Fact}
+use Rattle.facts.specs.declared.fact.Fact.TheVariants as fact
+use Rattle.facts.specs.declared.fact.Slot.{Slot}
+use Rattle.facts.specs.declared.fact.Slot.TheVariants as slot
+use Rattle.facts.specs.CommonParts.{expr_same, same_expr, void_is, void_cases}
+use Rattle.facts.specs.Order.{slot_of, IsStronger, meet_of, is_same}
+use Rattle.facts.specs.Laws.{IsStronger-trans, IsStronger-slot, meet_exists}
+use Rattle.facts.specs.Meets.{void_meet}
 use Rattle.cert_checker.specs.Steps.{IsLike, IsEnough, met_with}
-use Rattle.goals.specs.facts.Meets.{void_meet}
 
 -- one slot, or two
 by_bool : (b : Bool) (P : Type 0) → (b ≡ true → P) → (b ≡ false → P) → P

@@ -3,13 +3,12 @@ use Rattle.std.proofs.Common.{◌≡◌, ◌≤◌, ◌<◌, ◌+◌, ◌==◌, 
 use Rattle.std.proofs.Common.{◌++◌, length, take, Some, None, refl, sym, ap, subst, ◌∙◌, arith}
 use Rattle.std.proofs.Common.{⊎_elim}
 use Rattle.std.specs.Prelude.{slice_index_or}
-use Rattle.std.proofs.lemmas.Bool.{cases_lt}
+use Rattle.std.proofs.lemmas.Bool.{cases_lt, ne_eqb, eq-eqb}
 use Rattle.std.proofs.lemmas.List.{length-append, length-take}
-use Rattle.goals.specs.facts.declared.fact.Fact.{Fact}
+use Rattle.facts.specs.declared.fact.Fact.{Fact}
 use Rattle.cert_checker.specs.declared.open.Citable.{Citable}
 use Rattle.cert_checker.specs.Open.{nowhere, number_at, AreNumbered}
 use Rattle.cert_checker.specs.Steps.{step_fact}
-use Rattle.std.proofs.lemmas.Bool.{ne_eqb, eq-eqb}
 
 -- row i has the number, and none before it has
 pub found : (rows : List Citable) (n i : ℕ)

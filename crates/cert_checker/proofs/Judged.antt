@@ -2,9 +2,9 @@
 use Rattle.std.proofs.Common.{◌≡◌, ◌<◌, length, ℕ, zero, suc, Bool, true, List, [], ◌∷◌, Option}
 use Rattle.std.proofs.Common.{Some, None, refl, sym, subst, ◌∙◌, arith}
 use Rattle.std.specs.Prelude.{slice_index_or, min, IsTrue}
-use Rattle.goals.specs.facts.declared.fact.Fact.{Fact}
-use Rattle.cert_bytes.specs.declared.item.StepRow.{StepRow}
+use Rattle.facts.specs.declared.fact.Fact.{Fact}
 use Rattle.goals.specs.declared.goal.Goal.{Goal}
+use Rattle.cert_bytes.specs.declared.item.StepRow.{StepRow}
 use Rattle.cert_checker.specs.declared.open.Citable.{Citable}
 use Rattle.cert_checker.specs.Steps.{step_facts, IsMetWith, IsLike, IsCiting, Givens, Concludes}
 use Rattle.cert_checker.specs.Steps.{IsConcluded}

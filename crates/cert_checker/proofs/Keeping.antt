@@ -16,6 +16,7 @@ use Rattle.cert_bytes.specs.Pieces.{cursor_of}
 use Rattle.cert_bytes.specs.Readers.{Progress}
 use Rattle.cert_bytes.specs.Reading.{Cursor, cursor, item_at}
 use Rattle.cert_bytes.specs.ReadOut.{AreBytes, AreRead, ReadsAreSpelled}
+use Rattle.cert_bytes.specs.Next.{due_has_next}
 use Rattle.cert_checker.specs.declared.fault.CheckStop.{CheckStop}
 use Rattle.cert_checker.specs.declared.subject.Subject.{Subject}
 use Rattle.cert_checker.specs.Contexts.{Context, first}
@@ -26,7 +27,6 @@ use Rattle.cert_checker.specs.Accepted.{LeadsTo, Accepts, HaveEachRoot}
 use Rattle.cert_checker.specs.Checking.{IsFresh, TakesNext}
 use Rattle.cert_checker.specs.declared.keep.Accepted.{Accepted}
 use Rattle.cert_checker.specs.Keeping.{TookItem, AreAcceptedItems}
-use Rattle.cert_bytes.specs.Next.{due_has_next}
 use Rattle.cert_checker.proofs.Order.{in_order}
 
 pub taken : (told : Option (List ℕ)) (c d : Standing) (r q : Progress) (i : Item)

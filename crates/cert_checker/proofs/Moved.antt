@@ -8,22 +8,22 @@ use Rattle.fx_model.specs.Fraction.{Fraction}
 use Rattle.fx_model.specs.Expression.{Assignment, value}
 use Rattle.fx_model.specs.declared.ExprId.{ExprId}
 use Rattle.fx_model.specs.declared.Node.{Node}
-use Rattle.goals.specs.facts.declared.fact.Fact.{Fact}
-use Rattle.goals.specs.facts.declared.fact.Fact.TheVariants as fact
-use Rattle.goals.specs.facts.declared.fact.Slot.{Slot}
-use Rattle.goals.specs.facts.declared.fact.Slot.TheVariants as slot
-use Rattle.goals.specs.facts.declared.hint.Need.{Need}
-use Rattle.goals.specs.facts.declared.hint.Need.TheVariants.{NotZero, Below, Above}
-use Rattle.goals.specs.facts.declared.hint.HintRow.{HintRow}
-use Rattle.goals.specs.facts.Holds.{Holds}
-use Rattle.goals.specs.facts.Order.{slot_of}
-use Rattle.goals.specs.facts.Rows.{IsMet, RowIsTrue}
-use Rattle.theorem_list.specs.Promises.{RowsAreTrue}
+use Rattle.facts.specs.declared.fact.Fact.{Fact}
+use Rattle.facts.specs.declared.fact.Fact.TheVariants as fact
+use Rattle.facts.specs.declared.fact.Slot.{Slot}
+use Rattle.facts.specs.declared.fact.Slot.TheVariants as slot
+use Rattle.facts.specs.declared.hint.Need.{Need}
+use Rattle.facts.specs.declared.hint.Need.TheVariants.{NotZero, Below, Above}
+use Rattle.facts.specs.declared.hint.HintRow.{HintRow}
+use Rattle.facts.specs.Holds.{Holds}
+use Rattle.facts.specs.Order.{slot_of}
+use Rattle.facts.specs.Rows.{IsMet, RowIsTrue}
 use Rattle.goals.specs.declared.goal.Goal.{Goal}
 use Rattle.goals.specs.declared.line.Line.{Line}
 use Rattle.goals.specs.declared.line.Line.TheVariants as line
 use Rattle.goals.specs.Lies.{OfBoth}
 use Rattle.goals.specs.Holds.{LineHolds}
+use Rattle.theorem_list.specs.Promises.{RowsAreTrue}
 use Rattle.cert_checker.specs.Met.{SlotIsAmong, NeedIsAmong, RowIsAmong, GoalHolds, LinesHold}
 
 -- the first n expressions have the same values

@@ -1,6 +1,5 @@
 -- Items that are due, and what is due behind them.
-use Rattle.std.proofs.Common.{◌-◌, List, []}
-use Rattle.std.proofs.Common.{◌∷◌, Option, Some, None}
+use Rattle.std.proofs.Common.{◌-◌, List, [], ◌∷◌, Option, Some, None}
 use Rattle.cert_bytes.specs.declared.item.Item.{Item}
 use Rattle.cert_bytes.specs.declared.order.DueItem.{DueItem}
 use Rattle.cert_bytes.specs.Certificates.{AreDue}

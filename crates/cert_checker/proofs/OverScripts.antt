@@ -4,9 +4,9 @@ use Rattle.std.proofs.Common.{sym, subst, arith}
 use Rattle.std.specs.List.{AllByRecursion}
 use Rattle.fx_model.specs.Expression.{Assignment, IsOrdered, value}
 use Rattle.fx_model.specs.declared.Node.{Node}
-use Rattle.cert_bytes.specs.expr_dag.Extended.{ValuesStay}
-use Rattle.goals.specs.facts.declared.fact.Fact.{Fact}
-use Rattle.goals.specs.facts.Order.{slot_of}
+use Rattle.expr_dag.specs.Extended.{ValuesStay}
+use Rattle.facts.specs.declared.fact.Fact.{Fact}
+use Rattle.facts.specs.Order.{slot_of}
 use Rattle.theorem_list.specs.Promises.{AreSound}
 use Rattle.cert_bytes.specs.declared.item.Item.{Item}
 use Rattle.cert_bytes.specs.declared.order.DueItem.{DueItem}

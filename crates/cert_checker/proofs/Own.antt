@@ -7,7 +7,7 @@ use Rattle.std.proofs.lemmas.List.{length-append}
 use Rattle.std.proofs.lemmas.Option.{slice_get_within}
 use Rattle.fx_model.specs.declared.Node.{Node}
 use Rattle.fx_model.specs.declared.ExprId.{ExprId}
-use Rattle.cert_bytes.specs.expr_dag.Nodes.{IsLawful, IsInLimits, IsAt, IsAbsent, IsPlaced, IsFull}
+use Rattle.expr_dag.specs.Nodes.{IsLawful, IsInLimits, IsAt, IsAbsent, IsPlaced, IsFull}
 use Rattle.cert_checker.specs.Faults.{JudgesNode, IsFurther, IsOwn}
 use Rattle.cert_checker.specs.Own.{Agrees}
 

@@ -1,6 +1,6 @@
 -- An item that is read is one that is due.
-use Rattle.std.proofs.Common.{◌≡◌, ◌-◌, ◌==◌, ℕ, zero, suc, Bool, true, false, []}
-use Rattle.std.proofs.Common.{Ok, Err, refl, ap, subst, arith}
+use Rattle.std.proofs.Common.{◌≡◌, ◌-◌, ◌==◌, ℕ, zero, suc, Bool, true, false, [], Ok, Err, refl}
+use Rattle.std.proofs.Common.{ap, subst, arith}
 use Rattle.std.specs.Prelude.{if◌then◌else◌}
 use Rattle.cert_bytes.specs.declared.fault.CertFault.{CertFault}
 use Rattle.cert_bytes.specs.declared.fault.CertKind.TheVariants.{TrailingBytes}

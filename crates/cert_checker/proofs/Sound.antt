@@ -14,12 +14,12 @@ use Rattle.fx_model.specs.Expression.{Assignment, IsOrdered}
 use Rattle.fx_model.specs.declared.Node.{Node}
 use Rattle.fx_model.specs.declared.Node.TheVariants.{Var}
 use Rattle.fx_model.specs.declared.ExprId.{ExprId}
-use Rattle.goals.specs.dyadic.declared.number.Dyadic.{Dyadic}
-use Rattle.cert_bytes.specs.expr_dag.Shapes.{node_at-value}
-use Rattle.goals.specs.interval.Intervals.{range_of}
-use Rattle.goals.specs.facts.declared.fact.Fact.TheVariants as fact
-use Rattle.goals.specs.facts.Conclusions.{bnd_of}
-use Rattle.goals.specs.facts.Holds.{Holds}
+use Rattle.dyadic.specs.declared.number.Dyadic.{Dyadic}
+use Rattle.interval.specs.Intervals.{range_of}
+use Rattle.expr_dag.specs.Shapes.{node_at-value}
+use Rattle.facts.specs.declared.fact.Fact.TheVariants as fact
+use Rattle.facts.specs.Conclusions.{bnd_of}
+use Rattle.facts.specs.Holds.{Holds}
 use Rattle.cert_bytes.specs.declared.item.StepRow.{StepRow}
 use Rattle.cert_bytes.specs.declared.item.Item.TheVariants as item
 use Rattle.cert_checker.specs.declared.open.Citable.{Citable}

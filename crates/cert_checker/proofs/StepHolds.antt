@@ -10,16 +10,16 @@ use Rattle.fx_model.specs.Expression.{Assignment, IsOrdered}
 use Rattle.fx_model.specs.declared.Node.{Node}
 use Rattle.fx_model.specs.declared.Node.TheVariants.{Var, Lit, Neg, Add, Sub, Mul, Div, Abs, Round}
 use Rattle.fx_model.specs.declared.ExprId.{ExprId}
-use Rattle.cert_bytes.specs.expr_dag.Shapes.{node_at-value}
-use Rattle.goals.specs.interval.Intervals.{range_of}
-use Rattle.goals.specs.interval.Results.{whole_interval}
-use Rattle.goals.specs.facts.declared.fact.Fact.{Fact}
-use Rattle.goals.specs.facts.declared.fact.Slot.{Slot}
-use Rattle.goals.specs.facts.declared.fact.Fact.TheVariants as fact
-use Rattle.goals.specs.facts.declared.hint.HintRow.{HintRow}
-use Rattle.goals.specs.facts.Holds.{Holds}
-use Rattle.goals.specs.facts.Held.{IsStronger-Holds, meet-Holds}
-use Rattle.goals.specs.facts.Order.{meet_of}
+use Rattle.interval.specs.Intervals.{range_of}
+use Rattle.interval.specs.Results.{whole_interval}
+use Rattle.expr_dag.specs.Shapes.{node_at-value}
+use Rattle.facts.specs.declared.fact.Fact.{Fact}
+use Rattle.facts.specs.declared.fact.Slot.{Slot}
+use Rattle.facts.specs.declared.fact.Fact.TheVariants as fact
+use Rattle.facts.specs.declared.hint.HintRow.{HintRow}
+use Rattle.facts.specs.Holds.{Holds}
+use Rattle.facts.specs.Held.{IsStronger-Holds, meet-Holds}
+use Rattle.facts.specs.Order.{meet_of}
 use Rattle.theorem_list.specs.Concludes.{concludes}
 use Rattle.cert_bytes.specs.declared.item.StepRow.{StepRow}
 use Rattle.cert_checker.specs.declared.given.Given.{Given}
@@ -29,9 +29,9 @@ use Rattle.cert_checker.specs.Contexts.{Context, open_piece}
 use Rattle.cert_checker.specs.declared.subject.Subject.{Subject}
 use Rattle.cert_checker.specs.Steps.{step_fact, before, step_facts, IsMetWith, variable_fact}
 use Rattle.cert_checker.specs.Steps.{or_else, whole_line, without, only_for, target_of, case_facts}
-use Rattle.cert_checker.specs.Given.{given_of}
 use Rattle.cert_checker.specs.Steps.{Givens, givens, gives, given_fact, gives_by, met_with}
 use Rattle.cert_checker.specs.Steps.{IsEnough, IsConcluded}
+use Rattle.cert_checker.specs.Given.{given_of}
 use Rattle.cert_checker.proofs.Shown.{AllHold}
 
 -- nothing is given, or what holds

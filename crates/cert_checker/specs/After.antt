@@ -1,14 +1,14 @@
 -- What an item that nothing is wrong with makes of the context.
 use Rattle.std.specs.Prelude.{◌≤◌, ◌+◌, ◌||◌, ℕ, Bool, false, List, [], ◌∷◌, ◌++◌, length, take}
 use Rattle.std.specs.Prelude.{nat_lt, if◌then◌else◌, Option, Some, None}
-use Rattle.goals.specs.facts.declared.fact.Fact.{Fact}
 use Rattle.fx_model.specs.declared.ExprId.{ExprId}
-use Rattle.goals.specs.dyadic.declared.number.Dyadic.{Dyadic}
+use Rattle.dyadic.specs.declared.number.Dyadic.{Dyadic}
+use Rattle.facts.specs.declared.fact.Fact.{Fact}
+use Rattle.goals.specs.declared.line.Line.{Line}
+use Rattle.goals.specs.Joined.{joined}
 use Rattle.cert_bytes.specs.declared.item.Item.{Item}
 use Rattle.cert_bytes.specs.declared.item.Item.TheVariants as item
 use Rattle.cert_bytes.specs.Due.{is_of_root, is_end}
-use Rattle.goals.specs.declared.line.Line.{Line}
-use Rattle.goals.specs.Joined.{joined}
 use Rattle.cert_checker.specs.declared.open.Citable.{Citable}
 use Rattle.cert_checker.specs.declared.open.OpenCut.{OpenCut}
 use Rattle.cert_checker.specs.Contexts.{Context}

@@ -2,17 +2,17 @@
 use Rattle.std.specs.Prelude.{◌-◌, ◌==◌, ℕ, Bool, false, List, [], ◌∷◌, length, map, if◌then◌else◌}
 use Rattle.std.specs.Prelude.{Option, None}
 use Rattle.fx_model.specs.declared.Node.{Node}
-use Rattle.goals.specs.dyadic.declared.number.Dyadic.{Dyadic}
-use Rattle.goals.specs.dyadic.declared.number.End.{End}
-use Rattle.goals.specs.dyadic.declared.number.End.TheVariants.{Low, At, High}
-use Rattle.goals.specs.dyadic.Rising.{point_of}
-use Rattle.goals.specs.interval.declared.interval.Interval.{Interval}
-use Rattle.goals.specs.interval.Meets.{interval_from}
-use Rattle.goals.specs.facts.declared.fact.Fact.{Fact}
-use Rattle.goals.specs.facts.Conclusions.{bnd_of}
-use Rattle.cert_checker.specs.declared.subject.Subject.{Subject}
+use Rattle.dyadic.specs.declared.number.Dyadic.{Dyadic}
+use Rattle.dyadic.specs.declared.number.End.{End}
+use Rattle.dyadic.specs.declared.number.End.TheVariants.{Low, At, High}
+use Rattle.dyadic.specs.Rising.{point_of}
+use Rattle.interval.specs.declared.interval.Interval.{Interval}
+use Rattle.interval.specs.Meets.{interval_from}
+use Rattle.facts.specs.declared.fact.Fact.{Fact}
+use Rattle.facts.specs.Conclusions.{bnd_of}
 use Rattle.goals.specs.declared.line.Line.{Line}
 use Rattle.goals.specs.declared.line.Line.TheVariants as line
+use Rattle.cert_checker.specs.declared.subject.Subject.{Subject}
 use Rattle.cert_checker.specs.declared.open.Citable.{Citable}
 use Rattle.cert_checker.specs.declared.open.OpenCut.{OpenCut}
 

@@ -5,15 +5,16 @@ use Rattle.fx_model.specs.Expression.{ChildrenBelow}
 use Rattle.fx_model.specs.declared.ExprId.{ExprId}
 use Rattle.fx_model.specs.declared.Node.{Node}
 use Rattle.fx_model.specs.declared.Node.TheVariants.{Var}
-use Rattle.goals.specs.facts.declared.fact.Fact.{Fact}
-use Rattle.goals.specs.facts.declared.fact.Fact.TheVariants as fact
-use Rattle.goals.specs.facts.declared.hint.HintMark.{HintMark}
-use Rattle.cert_bytes.specs.expr_dag.Nodes.{IsAbsent}
+use Rattle.expr_dag.specs.Nodes.{IsAbsent}
+use Rattle.facts.specs.declared.fact.Fact.{Fact}
+use Rattle.facts.specs.declared.fact.Fact.TheVariants as fact
+use Rattle.facts.specs.declared.hint.HintMark.{HintMark}
+use Rattle.goals.specs.declared.goal.Goal.{Goal}
+use Rattle.goals.specs.Settles.{Settles}
 use Rattle.cert_bytes.specs.declared.item.Item.{Item}
 use Rattle.cert_bytes.specs.declared.item.Item.TheVariants as item
 use Rattle.cert_bytes.specs.Due.{is_of_root}
-use Rattle.goals.specs.declared.goal.Goal.{Goal}
-use Rattle.goals.specs.Settles.{Settles}
+use Rattle.cert_bytes.specs.declared.item.StepRow.{StepRow}
 use Rattle.cert_checker.specs.declared.fault.CheckFault.{CheckFault}
 use Rattle.cert_checker.specs.declared.fault.CheckFault.TheVariants.{BadStep, BadPremise, BadCut}
 use Rattle.cert_checker.specs.declared.fault.CheckFault.TheVariants.{GoalMissing}
@@ -23,7 +24,6 @@ use Rattle.cert_checker.specs.declared.open.Citable.{Citable}
 use Rattle.cert_checker.specs.Contexts.{Context}
 use Rattle.cert_checker.specs.declared.subject.Subject.{Subject}
 use Rattle.cert_checker.specs.Steps.{step_fact, Givens, givens, IsCiting, IsConcluded}
-use Rattle.cert_bytes.specs.declared.item.StepRow.{StepRow}
 use Rattle.cert_checker.specs.declared.fault.TakeStop.{TakeStop}
 use Rattle.cert_checker.specs.declared.fault.TakeStop.TheVariants.{Check, OutOfMemory}
 

@@ -4,17 +4,17 @@ use Rattle.std.specs.Prelude.{IfOk}
 use Rattle.cert_bytes.specs.declared.item.Item.{Item}
 use Rattle.cert_bytes.specs.Certificates.{HasSpelling, Fits, SpellsCertificate}
 use Rattle.cert_bytes.specs.Readers.{Progress}
-use Rattle.cert_checker.specs.declared.fault.CheckStop.{CheckStop}
-use Rattle.cert_checker.specs.declared.lines.Lines.{Lines}
-use Rattle.cert_checker.specs.declared.subject.Subject.{Subject}
-use Rattle.cert_checker.specs.Accepted.{Accepts}
-use Rattle.cert_checker.specs.Standing.{Standing}
 use Rattle.cert_bytes.specs.declared.item.Item.TheVariants.{End}
 use Rattle.cert_bytes.specs.Due.{due_behind, is_due}
 use Rattle.cert_bytes.specs.declared.order.DueItem.TheVariants.{Head}
 use Rattle.cert_bytes.specs.Pieces.{Ahead, cursor_of}
 use Rattle.cert_bytes.specs.ReadOut.{AreBytes, AreRead}
 use Rattle.cert_bytes.specs.Reading.{item_at}
+use Rattle.cert_checker.specs.declared.fault.CheckStop.{CheckStop}
+use Rattle.cert_checker.specs.declared.lines.Lines.{Lines}
+use Rattle.cert_checker.specs.declared.subject.Subject.{Subject}
+use Rattle.cert_checker.specs.Accepted.{Accepts}
+use Rattle.cert_checker.specs.Standing.{Standing}
 use Rattle.cert_checker.specs.Faults.{JudgesItem}
 use Rattle.cert_checker.specs.Outcomes.{Outcome, ComesOf}
 use Rattle.cert_checker.specs.Checking.{Checks, IsAnswer}

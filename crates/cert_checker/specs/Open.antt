@@ -1,7 +1,7 @@
 -- Steps by rising numbers.
 use Rattle.std.specs.Prelude.{◌<◌, ◌+◌, ℕ, List, [], ◌∷◌, ◌++◌, length, take, slice_index_or}
-use Rattle.goals.specs.facts.declared.fact.Fact.{Fact}
-use Rattle.goals.specs.facts.declared.fact.Fact.TheVariants as fact
+use Rattle.facts.specs.declared.fact.Fact.{Fact}
+use Rattle.facts.specs.declared.fact.Fact.TheVariants as fact
 use Rattle.cert_checker.specs.declared.open.Citable.{Citable}
 
 -- the steps that may be cited, and the number of the next

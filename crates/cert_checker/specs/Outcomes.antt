@@ -2,6 +2,7 @@
 -- of reading.
 use Rattle.std.specs.Prelude.{◌≡◌, ◌≤◌, ℕ, List, [], ◌∷◌, length, Some, None, Ok, Err}
 use Rattle.fx_model.specs.Expression.{Assignment, IsOrdered}
+use Rattle.goals.specs.declared.line.Line.{Line}
 use Rattle.cert_bytes.specs.declared.fault.CertFault.{CertFault}
 use Rattle.cert_bytes.specs.declared.item.Item.{Item}
 use Rattle.cert_bytes.specs.declared.order.DueItem.{DueItem}
@@ -17,7 +18,6 @@ use Rattle.cert_checker.specs.Contexts.{Context, first}
 use Rattle.cert_checker.specs.Faults.{JudgesItem}
 use Rattle.cert_checker.specs.After.{after}
 use Rattle.cert_checker.specs.Accepted.{Accepts}
-use Rattle.goals.specs.declared.line.Line.{Line}
 use Rattle.cert_checker.specs.Met.{NamesNodes, Meets, LinesHold}
 
 -- All is read and nothing is wrong, with what it comes to; the bytes have a fault; or an item has

@@ -1,12 +1,12 @@
 //! The checker as a chain that takes one item after the other.
 ghost use Rattle.std.specs.Prelude.{◌≡◌, ◌↔◌, ◌<◌, false, length, IfOk, IsNone, IfSome, IsTrue};
-ghost use Rattle.cert_bytes.specs.expr_dag.Nodes.{IsInLimits};
+ghost use Rattle.expr_dag.specs.Nodes.{IsInLimits};
 ghost use Rattle.cert_bytes.specs.declared.item.Item.TheVariants as item;
 ghost use Rattle.cert_bytes.specs.Certificates.{HasSpelling};
+ghost use Rattle.cert_bytes.specs.Due.{is_of_root, is_end};
 ghost use Rattle.cert_checker.specs.Faults.{IsJudged, JudgesContent, HasCases, cases_told};
 ghost use Rattle.cert_checker.specs.Standing.{Standing, begun, ChangesByContent, Changes, Takes};
 ghost use Rattle.cert_checker.specs.Standing.{HasRoom, left};
-ghost use Rattle.cert_bytes.specs.Due.{is_of_root, is_end};
 
 use crate::cuts::Cuts;
 use crate::fault::{CheckFault, TakeStop};
@@ -15,10 +15,13 @@ use crate::lines::{Lines, add_leaf, no_lines};
 use crate::nodes::{judge_count, judge_mark, judge_marks, take_node};
 use crate::open::{OpenCut, OpenSteps};
 use crate::subject::Subject;
-use cert_bytes::{Dag, Item, StepRow};
+use expr_dag::Dag;
+use cert_bytes::{Item, StepRow};
 use fx_edge::Items;
 use fx_model::{ExprId, Node};
-use goals::{Fact, HintMark, Line, Points};
+use facts::{Fact, HintMark};
+use goals::Line;
+use dyadic::Points;
 use std::alloc::{AllocError, Global};
 use std::marker::Model;
 

@@ -1,7 +1,7 @@
 //! Whether a step is concluded.
 ghost use Rattle.std.specs.Prelude.{◌≡◌, ◌↔◌, IsTrue, Some, None, MatchOption, Option, IfOk};
 ghost use Rattle.fx_model.specs.declared.Node.{Node};
-ghost use Rattle.goals.specs.facts.declared.fact.Fact.TheVariants as fact_of;
+ghost use Rattle.facts.specs.declared.fact.Fact.TheVariants as fact_of;
 ghost use Rattle.cert_checker.specs.Contexts.{open_piece};
 ghost use Rattle.cert_checker.specs.Steps as spec;
 ghost use Rattle.cert_checker.specs.Steps.{Concludes, IsMetWith, IsLike, Found};
@@ -10,9 +10,11 @@ use crate::cuts::Cuts;
 use crate::given::Given;
 use crate::open::OpenSteps;
 use crate::subject::Subject;
-use cert_bytes::{Dag, StepRow};
+use expr_dag::Dag;
+use cert_bytes::StepRow;
 use fx_model::{ExprId, Node};
-use goals::{Fact, Interval, Slot, meet, slot, stronger};
+use facts::{Fact, Slot, meet, slot, stronger};
+use interval::Interval;
 use std::alloc::AllocError;
 use theorem_list::conclude;
 

@@ -1,6 +1,6 @@
 //! What is wrong with steps and with ends of sections, if anything.
 ghost use Rattle.std.specs.Prelude.{◌≡◌, ◌<◌, ◌↔◌, IsTrue, MatchOption, Some, length};
-ghost use Rattle.goals.specs.facts.declared.fact.Fact.TheVariants as fact;
+ghost use Rattle.facts.specs.declared.fact.Fact.TheVariants as fact;
 ghost use Rattle.cert_checker.specs.Contexts.{open_piece};
 ghost use Rattle.cert_checker.specs.Steps.{case_facts};
 ghost use Rattle.cert_checker.specs.Faults.{IsJudged, JudgesStep, JudgesCut, JudgesLeaf};
@@ -11,9 +11,11 @@ use crate::cuts::Cuts;
 use crate::fault::{CheckFault, TakeStop};
 use crate::open::OpenSteps;
 use crate::subject::Subject;
-use cert_bytes::{Dag, StepRow};
+use expr_dag::Dag;
+use cert_bytes::StepRow;
 use fx_model::{ExprId, Node};
-use goals::{Fact, Goal, settles};
+use facts::Fact;
+use goals::{Goal, settles};
 
 fn refuse(fault: CheckFault) -> Result<(), TakeStop>
     ensures { result ≡ Err (TakeStop.Check fault) }

@@ -5,7 +5,8 @@ ghost use Rattle.cert_checker.specs.Outcomes.{ComesOnce, CheckedHolds, AcceptedA
 ghost use Rattle.cert_checker.specs.Outcomes.{SpelledAreAccepted};
 ghost use Rattle.cert_checker.specs.Once.{JudgedOnce, LeadsOnce, LeadsOrFails, FailsOnce};
 
-use cert_bytes::{certificates_are_spelled_once, values_stay};
+use cert_bytes::certificates_are_spelled_once;
+use expr_dag::values_stay;
 use goals::{lines_hold, settling_facts};
 use theorem_list::conclusions_are_sound;
 

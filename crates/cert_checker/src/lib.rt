@@ -2,8 +2,7 @@
 #![tactic(auto)]
 
 // What callers name of the crates below.
-pub use cert_bytes::{CertFault, CertKind, Node, Reader, Seen, StepRow};
-pub use goals::{Goal, HintMark, Interval, Line};
+pub use goals::Line;
 
 mod chain;
 mod check;
@@ -24,8 +23,6 @@ pub use check::check_subject;
 pub use fault::{CheckFault, CheckStop, TakeStop};
 pub use given::Given;
 pub use keep::{Accepted, accepted_items};
-pub use laws::{
-    accepted_lines_hold, bytes_are_accepted, each_case_has_its_root, items_are_judged_once,
-};
+pub use laws::{accepted_lines_hold, bytes_are_accepted, each_case_has_its_root, items_are_judged_once};
 pub use lines::Lines;
 pub use subject::Subject;

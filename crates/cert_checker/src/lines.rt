@@ -5,7 +5,8 @@ ghost use Rattle.cert_checker.specs.After.{lines_with, with_cited};
 
 use crate::open::OpenSteps;
 use fx_edge::Items;
-use goals::{Fact, Goal, HintMark, Line};
+use facts::{Fact, HintMark};
+use goals::{Goal, Line};
 use std::alloc::{AllocError, Global};
 
 /// What an accepted certificate shows.

@@ -2,9 +2,10 @@
 ghost use Rattle.std.specs.Prelude.{◌≡◌};
 ghost use Rattle.cert_checker.specs.Steps.{case_facts};
 
-use cert_bytes::Dag;
+use expr_dag::Dag;
 use fx_edge::Items;
-use goals::{Fact, Goal, HintMark, HintRow};
+use facts::{Fact, HintMark, HintRow};
+use goals::Goal;
 
 /// What a script asks of its certificates.
 #[derive(Drop)]

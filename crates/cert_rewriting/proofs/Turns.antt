@@ -4,7 +4,6 @@ use Rattle.std.specs.Prelude.{Option}
 use Rattle.std.specs.List.{AllByRecursion}
 use Rattle.std.proofs.Common.{sym, ap, subst, ◌∙◌, get_or, arith}
 use Rattle.std.proofs.Math.Seq.{take-length}
-use Rattle.whole_texts.specs.Pieces.{AppendsFront, PassesOn}
 use Rattle.cert_bytes.specs.declared.item.Item.{Item}
 use Rattle.cert_bytes.specs.declared.item.Item.TheVariants as item
 use Rattle.cert_bytes.specs.Certificates.{HasSpelling}
@@ -12,6 +11,7 @@ use Rattle.cert_bytes.specs.declared.style.Seen.{Seen}
 use Rattle.cert_bytes.specs.declared.style.Style.TheVariants.{Second}
 use Rattle.cert_bytes.specs.Spelling.{spelling, spelled_from}
 use Rattle.cert_bytes.specs.Styles.{seen_after}
+use Rattle.whole_texts.specs.Pieces.{AppendsFront, PassesOn}
 use Rattle.cert_rewriting.proofs.Written.{IsWriting, writing_on, writing_front, writing_more}
 
 -- the items behind the first

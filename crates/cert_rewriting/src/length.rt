@@ -2,8 +2,8 @@
 ghost use Rattle.std.specs.Prelude.{◌≡◌, IfOk};
 ghost use Rattle.std.specs.List.{AllByRecursion};
 ghost use Rattle.cert_bytes.specs.Certificates.{HasSpelling};
-ghost use Rattle.cert_rewriting.specs.Spelled.{told_length};
 ghost use Rattle.cert_bytes.specs.Spelling.{certificate_of};
+ghost use Rattle.cert_rewriting.specs.Spelled.{told_length};
 
 use cert_bytes::{Item, Seen, write_item2};
 use std::alloc::{AllocError, Global};

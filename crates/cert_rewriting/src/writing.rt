@@ -2,10 +2,10 @@
 ghost use Rattle.std.specs.Prelude.{◌≡◌, IsErrOf, OnOk, OnErr};
 ghost use Rattle.std.specs.List.{AllByRecursion};
 ghost use Rattle.std.specs.Io.KnownBytes.{Appends};
-ghost use Rattle.whole_texts.specs.OnlyWrites.{OnlyWrites};
-ghost use Rattle.whole_texts.specs.Pieces.{AppendsFront, HoldsAll, HoldsFront};
 ghost use Rattle.cert_bytes.specs.Certificates.{HasSpelling};
 ghost use Rattle.cert_bytes.specs.Spelling.{certificate_of};
+ghost use Rattle.whole_texts.specs.OnlyWrites.{OnlyWrites};
+ghost use Rattle.whole_texts.specs.Pieces.{AppendsFront, HoldsAll, HoldsFront};
 ghost use Rattle.cert_rewriting.specs.declared.writing.WriteStop.TheVariants.{Failed as FailedStop};
 ghost use Rattle.cert_rewriting.specs.declared.writing.WriteStop.TheVariants.{OutOfMemory};
 

@@ -5,7 +5,7 @@ use Rattle.std.proofs.Common.{◌++◌, map, Option, Some, None, refl, sym, ap, 
 use Rattle.std.proofs.Common.{⊎_elim}
 use Rattle.std.specs.Prelude.{◌||◌, if◌then◌else◌}
 use Rattle.std.specs.Option.{option_map}
-use Rattle.std.proofs.lemmas.Bool.{cases_lt}
+use Rattle.std.proofs.lemmas.Bool.{cases_lt, eq-eqb}
 use Rattle.cert_bytes.specs.declared.item.StepRow.{StepRow}
 use Rattle.cert_bytes.specs.declared.item.Item.{Item}
 use Rattle.cert_bytes.specs.declared.item.Item.TheVariants as item
@@ -13,7 +13,6 @@ use Rattle.cert_trim.specs.Trimmed.{new_number, number_behind_all, step_count, m
 use Rattle.cert_trim.specs.Trimmed.{trimmed_by}
 use Rattle.cert_trim.specs.Used.{CiteEarlier, AreAllUsed, and_more, cited, is_among, used_from}
 use Rattle.cert_trim.specs.Used.{trimmed}
-use Rattle.std.proofs.lemmas.Bool.{eq-eqb}
 use Rattle.cert_trim.proofs.Numbers.{on_both, next_of_used, next_of_unused}
 use Rattle.cert_trim.proofs.Enough.{Tells, Stays, tells_later, stays_later, tells_behind}
 use Rattle.cert_trim.proofs.Enough.{stays_behind, among_right, or_right}

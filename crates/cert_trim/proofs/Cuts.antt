@@ -4,9 +4,9 @@ use Rattle.std.proofs.Common.{length, take, refl, sym, ap, subst, ◌∙◌, ari
 use Rattle.std.specs.Prelude.{⊤, nat_lt, if◌then◌else◌}
 use Rattle.std.proofs.lemmas.List.{take-take, take-append-le, length-append, length-take}
 use Rattle.std.proofs.Math.Seq.{take-length}
-use Rattle.cert_checker.specs.goals.fx_model.declared.ExprId.{ExprId}
-use Rattle.cert_checker.specs.goals.dyadic.declared.number.Dyadic.{Dyadic}
-use Rattle.cert_checker.specs.facts.Conclusions.{bnd_of}
+use Rattle.fx_model.specs.declared.ExprId.{ExprId}
+use Rattle.dyadic.specs.declared.number.Dyadic.{Dyadic}
+use Rattle.facts.specs.Conclusions.{bnd_of}
 use Rattle.cert_checker.specs.declared.open.Citable.{Citable}
 use Rattle.cert_checker.specs.declared.open.OpenCut.{OpenCut}
 use Rattle.cert_checker.specs.Contexts.{open_piece, piece_of}

@@ -5,11 +5,12 @@ use Rattle.std.proofs.Common.{◌∷◌, ◌++◌, take, Option, Some, None, ref
 use Rattle.std.proofs.Common.{eqb-true}
 use Rattle.std.specs.Prelude.{◌||◌, if◌then◌else◌}
 use Rattle.std.specs.List.{AllByRecursion}
-use Rattle.cert_checker.specs.facts.declared.fact.Fact.{Fact}
-use Rattle.cert_checker.specs.facts.declared.fact.Fact.TheVariants as fact
+use Rattle.std.proofs.lemmas.Bool.{eq-eqb, ne_eqb}
+use Rattle.facts.specs.declared.fact.Fact.{Fact}
+use Rattle.facts.specs.declared.fact.Fact.TheVariants as fact
+use Rattle.goals.specs.declared.goal.Goal.{Goal}
 use Rattle.cert_bytes.specs.declared.item.Item.{Item}
 use Rattle.cert_bytes.specs.declared.item.Item.TheVariants as item
-use Rattle.cert_checker.specs.goals.declared.goal.Goal.{Goal}
 use Rattle.cert_checker.specs.declared.subject.Subject.{Subject}
 use Rattle.cert_checker.specs.declared.open.Citable.{Citable}
 use Rattle.cert_checker.specs.Contexts.{Context, first}
@@ -19,7 +20,6 @@ use Rattle.cert_checker.specs.Faults.{AreSettled}
 use Rattle.cert_checker.specs.Accepted.{LeadsTo}
 use Rattle.cert_trim.specs.Used.{AllBelow, CiteEarlier, and_more, cited, is_among, used_from}
 use Rattle.cert_trim.specs.Used.{AreUsed, AreEnough}
-use Rattle.std.proofs.lemmas.Bool.{eq-eqb, ne_eqb}
 
 -- ---- members
 

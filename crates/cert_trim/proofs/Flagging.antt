@@ -6,9 +6,9 @@ use Rattle.std.specs.Prelude.{◌||◌}
 use Rattle.std.proofs.lemmas.List.{take_more}
 use Rattle.std.proofs.lemmas.Bool.Decides.{eqb_tells}
 use Rattle.std.proofs.lemmas.Grind.{common_steps}
+use Rattle.std.proofs.lemmas.Bool.{eq-eqb, ne_eqb}
 use Rattle.cert_trim.specs.Used.{is_among}
 use Rattle.cert_trim.specs.Flags.{flag_at, AreFlags}
-use Rattle.std.proofs.lemmas.Bool.{eq-eqb, ne_eqb}
 
 or_true : (b c : Bool) → b ≡ true → true ≡ (b || c)
 or_true true c e = refl

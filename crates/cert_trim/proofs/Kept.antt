@@ -4,18 +4,17 @@ use Rattle.std.proofs.Common.{◌≡◌, ◌==◌, ℕ, Bool, true, false, List,
 use Rattle.std.proofs.Common.{None, refl, sym, ap, ◌∙◌, arith, ⊎_elim, map}
 use Rattle.std.specs.Prelude.{if◌then◌else◌}
 use Rattle.std.specs.Option.{option_map}
-use Rattle.std.proofs.lemmas.Bool.{cases_lt}
-use Rattle.cert_checker.specs.facts.declared.fact.Fact.{Fact}
+use Rattle.std.proofs.lemmas.Bool.{cases_lt, ne_eqb, eq-eqb}
+use Rattle.facts.specs.declared.fact.Fact.{Fact}
+use Rattle.goals.specs.declared.goal.Goal.{Goal}
+use Rattle.goals.specs.declared.line.Line.{Line}
 use Rattle.cert_bytes.specs.declared.item.StepRow.{StepRow}
-use Rattle.cert_checker.specs.goals.declared.goal.Goal.{Goal}
-use Rattle.cert_checker.specs.goals.declared.line.Line.{Line}
 use Rattle.cert_checker.specs.declared.open.Citable.{Citable}
 use Rattle.cert_checker.specs.Steps.{step_fact, step_facts, before, IsMetWith, Givens, IsConcluded}
 use Rattle.cert_checker.specs.Faults.{AreSettled}
 use Rattle.cert_checker.specs.After.{with_cited, lines_with}
 use Rattle.cert_trim.specs.Trimmed.{new_number, moved_row}
 use Rattle.cert_trim.specs.Used.{and_more, cited, AreUsed}
-use Rattle.std.proofs.lemmas.Bool.{ne_eqb, eq-eqb}
 use Rattle.cert_trim.proofs.Numbers.{lower, on_both}
 
 abbrev pub renumbered : (ℕ → Bool) → Citable → Citable

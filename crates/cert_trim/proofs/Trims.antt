@@ -1,10 +1,11 @@
 -- Items with which nothing is wrong, without the steps that no other item cites.
 use Rattle.std.proofs.Common.{◌≡◌, inl, ◌<◌, ◌+◌, ℕ, Bool, true, false, List, [], ◌∷◌, ◌++◌, length}
 use Rattle.std.proofs.Common.{take, Some, refl, sym, ap, subst, ◌∙◌, append-nil}
+use Rattle.goals.specs.declared.line.Line.{Line}
 use Rattle.cert_bytes.specs.declared.item.StepRow.{StepRow}
 use Rattle.cert_bytes.specs.declared.item.Item.{Item}
 use Rattle.cert_bytes.specs.declared.item.Item.TheVariants as item
-use Rattle.cert_checker.specs.goals.declared.line.Line.{Line}
+use Rattle.cert_bytes.specs.declared.order.DueItem.TheVariants.{Head}
 use Rattle.cert_checker.specs.declared.subject.Subject.{Subject}
 use Rattle.cert_checker.specs.declared.open.Citable.{Citable}
 use Rattle.cert_checker.specs.declared.open.OpenCut.{OpenCut}
@@ -13,7 +14,6 @@ use Rattle.cert_checker.specs.Steps.{givens, IsConcluded}
 use Rattle.cert_checker.specs.After.{after, around_of, cuts_behind, case_behind, lines_with}
 use Rattle.cert_checker.specs.Accepted.{LeadsTo}
 use Rattle.cert_checker.specs.Faults.{HasCases}
-use Rattle.cert_bytes.specs.declared.order.DueItem.TheVariants.{Head}
 use Rattle.cert_trim.specs.Trimmed.{new_number, moved_row, trimmed_by, if_used}
 use Rattle.cert_trim.specs.Used.{cited, AreUsed, AreEnough}
 use Rattle.cert_trim.specs.Law.{TrimmedAreAccepted}

@@ -1,11 +1,11 @@
 -- Acceptance and lines don't depend on steps that no other item cites.
 use Rattle.std.specs.Prelude.{◌≡◌, ℕ, Bool, List, Some}
 use Rattle.std.specs.List.{AllByRecursion}
+use Rattle.goals.specs.declared.line.Line.{Line}
 use Rattle.cert_bytes.specs.Certificates.{HasSpelling}
 use Rattle.cert_bytes.specs.declared.item.Item.{Item}
 use Rattle.cert_bytes.specs.declared.order.DueItem.TheVariants.{Head}
 use Rattle.cert_checker.specs.declared.subject.Subject.{Subject}
-use Rattle.cert_checker.specs.goals.declared.line.Line.{Line}
 use Rattle.cert_checker.specs.Contexts.{Context, first}
 use Rattle.cert_checker.specs.Accepted.{LeadsTo, Accepts, AreInOrder}
 use Rattle.cert_trim.specs.Trimmed.{trimmed_by}

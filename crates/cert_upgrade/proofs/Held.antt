@@ -3,8 +3,8 @@ use Rattle.std.specs.Prelude.{◌≡◌, ◌++◌, ℕ, List, [], Option, Some, 
 use Rattle.std.specs.Io.KnownBytes.{Appends}
 use Rattle.std.proofs.Common.{ap, sym, ◌∙◌, append-nil}
 use Rattle.fx_edge.specs.Outside.{Empties}
-pub use Rattle.whole_texts.specs.Pieces.{appends_both}
-use Rattle.cert_upgrade.specs.Files.{AppendsFront, Holds, HoldsFront}
+use Rattle.whole_texts.specs.Pieces.{AppendsFront}
+use Rattle.cert_upgrade.specs.Files.{Holds, HoldsFront}
 
 -- ---- what is taken in turn
 pub appends_none : (a : Option (List ℕ)) → Appends a a []

@@ -6,10 +6,10 @@ use Rattle.cert_bytes.specs.declared.item.Item.{Item}
 use Rattle.cert_bytes.specs.declared.style.Seen.{Seen}
 use Rattle.cert_bytes.specs.ReadOut.{ReadsAreSpelled}
 use Rattle.cert_bytes.specs.Readers.{Progress}
-use Rattle.cert_upgrade.specs.Items.{AreItemsFor, Respells}
-use Rattle.cert_upgrade.specs.Spelled.{most, told_length}
 use Rattle.cert_bytes.specs.Spelling.{certificate_of, spelling_of}
 use Rattle.cert_bytes.specs.Styles.{seen_in}
+use Rattle.cert_upgrade.specs.Items.{AreItemsFor, Respells}
+use Rattle.cert_upgrade.specs.Spelled.{most, told_length}
 use Rattle.cert_upgrade.proofs.Read.{HasRead, read_more, read_whole}
 use Rattle.cert_upgrade.proofs.Spelled.{length_one}
 

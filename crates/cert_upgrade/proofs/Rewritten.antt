@@ -12,13 +12,13 @@ use Rattle.cert_bytes.specs.Pieces.{cursor_of}
 use Rattle.cert_bytes.specs.ReadOut.{ReadsAreSpelled}
 use Rattle.cert_bytes.specs.Readers.{Progress}
 use Rattle.cert_bytes.specs.Reading.{cursor}
-use Rattle.cert_upgrade.specs.Answers.{IsTaken, IsTakenInPart}
-use Rattle.cert_upgrade.specs.Files.{AppendsFront, PassesOn}
-use Rattle.cert_upgrade.specs.Items.{Respells}
 use Rattle.cert_bytes.specs.Spelling.{certificate_of, spelling_of}
 use Rattle.cert_bytes.specs.Styles.{seen_in}
+use Rattle.whole_texts.specs.Pieces.{AppendsFront, PassesOn, appends_both}
+use Rattle.cert_upgrade.specs.Answers.{IsTaken, IsTakenInPart}
+use Rattle.cert_upgrade.specs.Items.{Respells}
 use Rattle.cert_upgrade.proofs.Begun.{some_end, front_more}
-use Rattle.cert_upgrade.proofs.Held.{appends_both, appends_none}
+use Rattle.cert_upgrade.proofs.Held.{appends_none}
 use Rattle.cert_upgrade.proofs.Leads.{leads_front}
 use Rattle.cert_upgrade.proofs.Read.{HasRead, read_more, read_whole}
 use Rattle.cert_upgrade.proofs.Spelled.{spelled_one}

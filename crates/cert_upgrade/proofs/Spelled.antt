@@ -5,8 +5,8 @@ use Rattle.std.proofs.lemmas.List.{length-append}
 use Rattle.cert_bytes.specs.declared.item.Item.{Item}
 use Rattle.cert_bytes.specs.declared.style.Seen.{Seen}
 use Rattle.cert_bytes.specs.Styles.{none_seen, seen_after, seen_in, seen_both}
-use Rattle.cert_upgrade.specs.Spelled.{most, told_length}
 use Rattle.cert_bytes.specs.Spelling.{spelling_of, spelled_both, certificate_of}
+use Rattle.cert_upgrade.specs.Spelled.{most, told_length}
 
 -- one item more
 pub seen_one : (items : List Item) (i : Item) (s : Seen) → s ≡ seen_in items

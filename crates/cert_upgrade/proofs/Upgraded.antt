@@ -11,6 +11,7 @@ use Rattle.cert_bytes.specs.declared.order.DueItem.TheVariants.{Head}
 use Rattle.cert_bytes.specs.declared.style.Seen.{Seen}
 use Rattle.cert_bytes.specs.Certificates.{AreCertificate}
 use Rattle.cert_bytes.specs.ReadOut.{HasFault}
+use Rattle.cert_bytes.specs.Spelling.{certificate_of}
 use Rattle.cert_upgrade.specs.declared.stop.UpgradeStop.{UpgradeStop}
 use Rattle.cert_upgrade.specs.declared.stop.UpgradeStop.TheVariants.{Fault, NewTooLong, ReadFailed}
 use Rattle.cert_upgrade.specs.declared.stop.UpgradeStop.TheVariants.{WriteFailed, OutOfMemory}
@@ -19,7 +20,6 @@ use Rattle.cert_upgrade.specs.Answers.{IsSomeFront, IsUnwritten, ComesOfAny, IsT
 use Rattle.cert_upgrade.specs.Answers.{IsBroken}
 use Rattle.cert_upgrade.specs.Items.{AreItemsOf}
 use Rattle.cert_upgrade.specs.Spelled.{most, told_length}
-use Rattle.cert_bytes.specs.Spelling.{certificate_of}
 use Rattle.cert_upgrade.specs.Stops.{stop_of}
 use Rattle.cert_upgrade.proofs.Begun.{some_end}
 use Rattle.cert_upgrade.proofs.Held.{appends_new, front_new, not_new}

@@ -7,14 +7,15 @@ use Rattle.cert_bytes.specs.declared.item.Item.{Item}
 use Rattle.cert_bytes.specs.declared.style.Seen.{Seen}
 use Rattle.cert_bytes.specs.Certificates.{AreCertificate}
 use Rattle.cert_bytes.specs.ReadOut.{HasFault}
+use Rattle.cert_bytes.specs.Spelling.{certificate_of}
+use Rattle.cert_bytes.specs.Styles.{seen_in}
+use Rattle.whole_texts.specs.Pieces.{AppendsFront}
 use Rattle.cert_upgrade.specs.declared.stop.UpgradeStop.{UpgradeStop}
 use Rattle.cert_upgrade.specs.declared.stop.UpgradeStop.TheVariants.{Fault, NewTooLong, ReadFailed}
 use Rattle.cert_upgrade.specs.declared.stop.UpgradeStop.TheVariants.{WriteFailed, OutOfMemory}
-use Rattle.cert_upgrade.specs.Files.{AppendsFront, Holds, HoldsFront}
+use Rattle.cert_upgrade.specs.Files.{Holds, HoldsFront}
 use Rattle.cert_upgrade.specs.Items.{AreItemsFor, AreItemsOf}
 use Rattle.cert_upgrade.specs.Spelled.{most}
-use Rattle.cert_bytes.specs.Spelling.{certificate_of}
-use Rattle.cert_bytes.specs.Styles.{seen_in}
 
 -- The bytes spell these items, whose spelling in version 2 isn't too long.
 pub record MayBecome (all : List ℕ) (items : List Item) : Type 0 where

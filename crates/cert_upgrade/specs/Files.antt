@@ -1,7 +1,6 @@
 -- What a file took, and what it holds.
 use Rattle.std.specs.Prelude.{◌≡◌, ℕ, List, Option, Some}
 use Rattle.cert_bytes.specs.Fronts.{IsFront}
-pub use Rattle.whole_texts.specs.Pieces.{AppendsFront, PassesOn}
 
 -- It holds these bytes now, where its bytes were told.
 abbrev pub Holds : List ℕ → Option (List ℕ) → Option (List ℕ) → Type 0

@@ -1,5 +1,6 @@
 //! Items of a certificate, read in either version and spelled in version 2.
 ghost use Rattle.std.specs.Prelude.{◌≡◌, ◌≤◌, ◌<◌, ◌^◌, ℕ, List, Some, Err, IfOk, IsErrOf, false};
+ghost use Rattle.fx_edge.specs.OnlyReads.{OnlyReads};
 ghost use Rattle.cert_bytes.specs.declared.item.Item.{Item};
 ghost use Rattle.cert_bytes.specs.declared.fault.CertFault.{CertFault};
 ghost use Rattle.cert_bytes.specs.declared.fault.Stop.TheVariants as CertStop;
@@ -9,7 +10,6 @@ ghost use Rattle.cert_bytes.specs.ReadOut.{HasFault};
 ghost use Rattle.cert_bytes.specs.Reading.{item_at};
 ghost use Rattle.cert_bytes.specs.Styles.{seen_in};
 ghost use Rattle.cert_bytes.specs.Spelling.{certificate_of};
-ghost use Rattle.fx_edge.specs.OnlyReads.{OnlyReads};
 ghost use Rattle.cert_bytes.specs.Calls.{ReadsOn};
 ghost use Rattle.cert_upgrade.specs.Items.{AreItemsFor, Respells, CanRespell};
 ghost use Rattle.cert_upgrade.specs.Spelled.{told_length};

@@ -3,39 +3,38 @@ use Rattle.std.specs.Prelude.{◌≡◌, ◌≤◌, ◌+◌, ◌*◌, ℕ, zero,
 use Rattle.std.specs.Prelude.{map, Some, None, slice_get, refl}
 use Rattle.std.proofs.Common.{sym, ◌∙◌, ap, subst, append-nil, arith}
 use Rattle.std.proofs.lemmas.List.{append_assoc, length-append}
-use Rattle.goals.specs.fx_model.declared.Node.{Node}
-use Rattle.goals.specs.facts.declared.hint.HintMark.{HintMark}
+use Rattle.fx_model.specs.declared.Node.{Node}
+use Rattle.facts.specs.declared.hint.HintMark.{HintMark}
 use Rattle.goals.specs.declared.goal.Goal.{Goal}
 use Rattle.goals.specs.declared.line.Line.{Line}
 use Rattle.goals.specs.declared.line.Line.TheVariants as line
 use Rattle.derivation.specs.Derivations.{Setting}
 use Rattle.derivation.specs.Exists.{table_at}
-use Rattle.box_trace.specs.saturate.Universes.{setting_of}
-use Rattle.cert_trim.specs.cert_bytes.declared.item.Item.{Item}
-use Rattle.cert_trim.specs.cert_bytes.declared.item.Item.TheVariants as item
-use Rattle.cert_trim.specs.cert_bytes.declared.order.DueItem.TheVariants.{Nodes, Marks, Sections}
-use Rattle.cert_trim.specs.cert_bytes.Certificates.{AreDue}
-use Rattle.box_trace.specs.cert_checker.declared.subject.Subject.{Subject}
-use Rattle.box_trace.specs.cert_checker.Contexts.{Context, first, open_piece}
-use Rattle.box_trace.specs.cert_checker.After.{after, around_of, cuts_behind}
-use Rattle.box_trace.specs.cert_checker.Accepted.{LeadsTo}
-use Rattle.box_trace.specs.tree_certificates.Sections.{AllBelow}
-use Rattle.box_trace.specs.tree_certificates.Writing.{givens_of}
-use Rattle.box_trace.specs.tree_certificates.Traces.{Trace}
-use Rattle.box_trace.specs.tree_certificates.Trees.{Tree, IsProved, lines_of_tree, steps_in}
-use Rattle.box_trace.specs.tree_certificates.Trees.{AreTaken}
-use Rattle.box_trace.specs.tree_certificates.Roots.{roots_are_counted, cases_items}
-use Rattle.box_trace.specs.tree_certificates.Walks.{numbered, MayBegin, IsOpen}
-use Rattle.box_trace.specs.tree_certificates.Laws.{TracesExist}
-use Rattle.cert_writer.specs.Standing.{IsAt, most_for, steps_left, lines_left, at_root}
-use Rattle.cert_trim.specs.cert_bytes.declared.style.Seen.{Seen}
-use Rattle.cert_trim.specs.cert_bytes.Styles.{seen_in}
+use Rattle.saturate.specs.Universes.{setting_of}
+use Rattle.cert_bytes.specs.declared.item.Item.{Item}
+use Rattle.cert_bytes.specs.declared.item.Item.TheVariants as item
+use Rattle.cert_bytes.specs.declared.order.DueItem.TheVariants.{Nodes, Marks, Sections}
+use Rattle.cert_bytes.specs.Certificates.{AreDue}
+use Rattle.cert_bytes.specs.declared.style.Seen.{Seen}
+use Rattle.cert_bytes.specs.Styles.{seen_in}
+use Rattle.cert_checker.specs.declared.subject.Subject.{Subject}
+use Rattle.cert_checker.specs.Contexts.{Context, first, open_piece}
+use Rattle.cert_checker.specs.After.{after, around_of, cuts_behind}
+use Rattle.cert_checker.specs.Accepted.{LeadsTo}
+use Rattle.tree_certificates.specs.Sections.{AllBelow}
+use Rattle.tree_certificates.specs.Writing.{givens_of}
+use Rattle.tree_certificates.specs.Traces.{Trace}
+use Rattle.tree_certificates.specs.Trees.{Tree, IsProved, lines_of_tree, steps_in, AreTaken}
+use Rattle.tree_certificates.specs.Roots.{roots_are_counted, cases_items}
+use Rattle.tree_certificates.specs.Walks.{numbered, MayBegin, IsOpen}
+use Rattle.tree_certificates.specs.Laws.{TracesExist}
+use Rattle.tree_certificates.specs.Moves.{lead_both, marks_due, root_due}
 use Rattle.box_trace.specs.Short.{bytes_a_box}
+use Rattle.cert_writer.specs.Standing.{IsAt, most_for, steps_left, lines_left, at_root}
 use Rattle.cert_writer.proofs.Sized.{head_sized}
 use Rattle.cert_writer.specs.Heads.{head_items}
 use Rattle.cert_writer.specs.Laws.{OfAims}
 use Rattle.cert_writer.proofs.Seen.{head_seen}
-use Rattle.box_trace.specs.tree_certificates.Moves.{lead_both, marks_due, root_due}
 
 -- ---- what they come to
 abbrev with_nodes : Context → List Node → Context

@@ -5,38 +5,38 @@ use Rattle.std.specs.Borrow.{Bor}
 use Rattle.std.specs.List.{AllByRecursion}
 use Rattle.std.proofs.Common.{sym, ◌∙◌, ap, subst, arith}
 use Rattle.std.proofs.lemmas.List.{length-map}
-use Rattle.goals.specs.fx_model.declared.ExprId.{ExprId}
-use Rattle.goals.specs.dyadic.declared.number.Dyadic.{Dyadic}
-use Rattle.goals.specs.facts.declared.fact.Slot.TheVariants as slot
+use Rattle.fx_model.specs.declared.ExprId.{ExprId}
+use Rattle.dyadic.specs.declared.number.Dyadic.{Dyadic}
+use Rattle.facts.specs.declared.fact.Slot.TheVariants as slot
 use Rattle.goals.specs.declared.goal.Goal.{Goal}
 use Rattle.goals.specs.declared.line.Line.{Line}
 use Rattle.derivation.specs.Derivations.{At}
 use Rattle.derivation.specs.Known.{IsTableAt}
-use Rattle.box_trace.specs.rule_universe.Worlds.{World}
-use Rattle.answer_certificates.specs.box_tree.declared.cut.Cut.{Cut}
-use Rattle.answer_certificates.specs.box_tree.declared.cut.Cut.TheVariants.{Forced, Half, Bottom}
-use Rattle.answer_certificates.specs.box_tree.Plans.{cut_at, piece_at, pieces_at}
-use Rattle.answer_certificates.specs.box_tree.Regions.{PlanParts}
-use Rattle.answer_certificates.specs.bisect.declared.settler.State.{State}
-use Rattle.cert_trim.specs.cert_bytes.declared.item.Item.{Item}
-use Rattle.cert_trim.specs.cert_bytes.declared.item.Item.TheVariants as item
-use Rattle.cert_trim.specs.cert_bytes.declared.item.StepRow.{StepRow}
-use Rattle.cert_trim.specs.cert_bytes.Certificates.{HasSpelling}
-use Rattle.cert_trim.specs.cert_bytes.declared.style.Seen.{Seen}
-use Rattle.cert_trim.specs.cert_bytes.Styles.{seen_behind, seen_in}
-use Rattle.cert_trim.specs.cert_bytes.Spelling.{spelled_behind}
+use Rattle.rule_universe.specs.Worlds.{World}
+use Rattle.box_tree.specs.declared.cut.Cut.{Cut}
+use Rattle.box_tree.specs.declared.cut.Cut.TheVariants.{Forced, Half, Bottom}
+use Rattle.box_tree.specs.Plans.{cut_at, piece_at, pieces_at}
+use Rattle.box_tree.specs.Regions.{PlanParts}
+use Rattle.bisect.specs.declared.settler.State.{State}
+use Rattle.cert_bytes.specs.declared.item.Item.{Item}
+use Rattle.cert_bytes.specs.declared.item.Item.TheVariants as item
+use Rattle.cert_bytes.specs.declared.item.StepRow.{StepRow}
+use Rattle.cert_bytes.specs.Certificates.{HasSpelling}
+use Rattle.cert_bytes.specs.declared.style.Seen.{Seen}
+use Rattle.cert_bytes.specs.Styles.{seen_behind, seen_in}
+use Rattle.cert_bytes.specs.Spelling.{spelled_behind}
+use Rattle.cert_trim.specs.Trimmed.{number_behind_all}
+use Rattle.cert_trim.specs.Used.{CiteEarlier}
+use Rattle.cert_trim.specs.Behind.{stays_behind, trimmed_behind, IsLeafOrDead, AreFewer, section_of}
+use Rattle.tree_certificates.specs.Trees.{leaf, cut, IsProved}
+use Rattle.tree_certificates.specs.Walks.{numbered, behind_steps}
 use Rattle.box_trace.specs.declared.known.Known.{Known}
 use Rattle.box_trace.specs.declared.tracing.Traced.{Traced}
 use Rattle.box_trace.specs.Boxes.{IsItsTable, AreItsSteps, log_of, most_steps}
 use Rattle.box_trace.specs.Tables.{known_at, place_in, HasRows}
-use Rattle.box_trace.specs.tree_certificates.Trees.{leaf, cut, IsProved}
-use Rattle.box_trace.specs.tree_certificates.Walks.{numbered, behind_steps}
-use Rattle.answer_certificates.specs.Boxes.{range_of_piece, pieces_from}
 use Rattle.box_trace.specs.Short.{BoxesAreShort}
 use Rattle.box_trace.specs.Rounds.{IsByRounds}
-use Rattle.cert_trim.specs.Trimmed.{number_behind_all}
-use Rattle.cert_trim.specs.Used.{CiteEarlier}
-use Rattle.cert_trim.specs.Behind.{stays_behind, trimmed_behind, IsLeafOrDead, AreFewer, section_of}
+use Rattle.answer_certificates.specs.Boxes.{range_of_piece, pieces_from}
 use Rattle.cert_writer.specs.Boxes.{HasShortList, KnowsVoid, CutsAt, IsEnd, written_of}
 use Rattle.cert_writer.specs.Standing.{Target, SectionStart, IsAt, Ended, HasEnded, AreBoxSteps}
 use Rattle.cert_writer.specs.Standing.{inside, closed, trimmed}

@@ -5,53 +5,52 @@ use Rattle.std.specs.List.{AllByRecursion}
 use Rattle.std.proofs.Common.{sym, ◌∙◌, ap, subst, arith}
 use Rattle.std.proofs.lemmas.List.{append_assoc}
 use Rattle.std.proofs.lemmas.Option.{slice_get_within}
-use Rattle.goals.specs.fx_model.declared.ExprId.{ExprId}
-use Rattle.goals.specs.fx_model.declared.Node.TheVariants.{Var}
-use Rattle.goals.specs.dyadic.declared.number.Dyadic.{Dyadic}
-use Rattle.goals.specs.interval.declared.interval.Interval.{Interval}
-use Rattle.goals.specs.facts.declared.fact.Fact.{Fact}
-use Rattle.goals.specs.facts.declared.fact.Fact.TheVariants as fact
-use Rattle.goals.specs.facts.declared.fact.Slot.TheVariants as slot
+use Rattle.fx_model.specs.declared.ExprId.{ExprId}
+use Rattle.fx_model.specs.declared.Node.TheVariants.{Var}
+use Rattle.dyadic.specs.declared.number.Dyadic.{Dyadic}
+use Rattle.interval.specs.declared.interval.Interval.{Interval}
+use Rattle.facts.specs.declared.fact.Fact.{Fact}
+use Rattle.facts.specs.declared.fact.Fact.TheVariants as fact
+use Rattle.facts.specs.declared.fact.Slot.TheVariants as slot
 use Rattle.goals.specs.declared.goal.Goal.{Goal}
 use Rattle.goals.specs.declared.line.Line.{Line}
 use Rattle.derivation.specs.Derivations.{Setting, At}
 use Rattle.derivation.specs.Exists.{table_at}
-use Rattle.box_trace.specs.saturate.Universes.{setting_of}
-use Rattle.cert_trim.specs.cert_bytes.declared.item.Item.{Item}
-use Rattle.cert_trim.specs.cert_bytes.declared.item.Item.TheVariants as item
-use Rattle.cert_trim.specs.cert_bytes.declared.item.StepRow.{StepRow}
-use Rattle.cert_trim.specs.cert_bytes.declared.order.DueItem.TheVariants.{Sections}
-use Rattle.cert_trim.specs.cert_bytes.declared.style.Style.TheVariants.{Second}
-use Rattle.cert_trim.specs.cert_bytes.Certificates.{AreDue, AreCertificate, IsLong, IsShort}
-use Rattle.cert_trim.specs.cert_bytes.Spelling.{spelled_behind, certificate_of}
-use Rattle.box_trace.specs.cert_checker.declared.open.Citable.{Citable}
-use Rattle.box_trace.specs.cert_checker.Contexts.{Context, first}
-use Rattle.box_trace.specs.cert_checker.Steps.{step_fact}
-use Rattle.box_trace.specs.cert_checker.Faults.{AreSettled, IsVariable, JudgesItem}
-use Rattle.box_trace.specs.cert_checker.After.{after, case_behind, cuts_behind, lines_with}
-use Rattle.box_trace.specs.cert_checker.Accepted.{LeadsTo}
-use Rattle.box_trace.specs.tree_certificates.Sections.{AllBelow}
-use Rattle.box_trace.specs.tree_certificates.Traces.{most_steps}
-use Rattle.box_trace.specs.tree_certificates.Roots.{Root, AreRoots, steps_in_roots, lines_of_roots}
-use Rattle.box_trace.specs.tree_certificates.Trees.{Tree, Trees, leaf, cut, last, next, AreProved}
-use Rattle.box_trace.specs.tree_certificates.Trees.{ArePoints, lines_of_tree, lines_of_trees}
-use Rattle.box_trace.specs.tree_certificates.Trees.{lines_at, leaf_lines, steps_in, steps_in_each}
-use Rattle.box_trace.specs.tree_certificates.Walks.{behind_steps, IsEndOf, Frame, LiesIn, left_in}
-use Rattle.box_trace.specs.tree_certificates.Walks.{lines_behind, steps_behind, IsDue, Ending}
-use Rattle.box_trace.specs.tree_certificates.Moves.{WalksGoOn, WalksMove, AreSteps, IsEntered}
-use Rattle.box_trace.specs.tree_certificates.Moves.{lead_both, next_behind}
+use Rattle.saturate.specs.Universes.{setting_of}
+use Rattle.cert_bytes.specs.declared.item.Item.{Item}
+use Rattle.cert_bytes.specs.declared.item.Item.TheVariants as item
+use Rattle.cert_bytes.specs.declared.item.StepRow.{StepRow}
+use Rattle.cert_bytes.specs.declared.order.DueItem.TheVariants.{Sections}
+use Rattle.cert_bytes.specs.declared.style.Style.TheVariants.{Second}
+use Rattle.cert_bytes.specs.Certificates.{AreDue, AreCertificate, IsLong, IsShort}
+use Rattle.cert_bytes.specs.Spelling.{spelled_behind, certificate_of, spelled_both}
+use Rattle.cert_bytes.specs.Styles.{none_seen, seen_in}
+use Rattle.cert_bytes.specs.Sizes.{most_bytes_in, SpellingsAreShort}
+use Rattle.cert_checker.specs.declared.open.Citable.{Citable}
+use Rattle.cert_checker.specs.Contexts.{Context, first}
+use Rattle.cert_checker.specs.Steps.{step_fact}
+use Rattle.cert_checker.specs.Faults.{AreSettled, IsVariable, JudgesItem}
+use Rattle.cert_checker.specs.After.{after, case_behind, cuts_behind, lines_with}
+use Rattle.cert_checker.specs.Accepted.{LeadsTo}
+use Rattle.cert_trim.specs.Behind.{section_of}
+use Rattle.tree_certificates.specs.Sections.{AllBelow}
+use Rattle.tree_certificates.specs.Traces.{most_steps}
+use Rattle.tree_certificates.specs.Roots.{Root, AreRoots, steps_in_roots, lines_of_roots}
+use Rattle.tree_certificates.specs.Trees.{Tree, Trees, leaf, cut, last, next, AreProved, ArePoints}
+use Rattle.tree_certificates.specs.Trees.{lines_of_tree, lines_of_trees, lines_at, leaf_lines}
+use Rattle.tree_certificates.specs.Trees.{steps_in, steps_in_each}
+use Rattle.tree_certificates.specs.Walks.{behind_steps, IsEndOf, Frame, LiesIn, left_in}
+use Rattle.tree_certificates.specs.Walks.{lines_behind, steps_behind, IsDue, Ending}
+use Rattle.tree_certificates.specs.Moves.{WalksGoOn, WalksMove, AreSteps, IsEntered, lead_both}
+use Rattle.tree_certificates.specs.Moves.{next_behind}
+use Rattle.tree_certificates.specs.Cited.{found_long}
 use Rattle.cert_writer.specs.Standing.{Aim, IsAim, IsWhole, IsBegun, SectionStart, IsAt, Ended}
 use Rattle.cert_writer.specs.Standing.{HasEnded, HasWritten, AreBoxSteps, AreShort, AreCited}
 use Rattle.cert_writer.specs.Standing.{most_for, roots_left, steps_left, lines_left, inside, closed}
 use Rattle.cert_writer.specs.Standing.{beside, around, next_aim, next_root, root_with}
 use Rattle.cert_writer.specs.Laws.{OfAims}
-use Rattle.cert_trim.specs.cert_bytes.Styles.{none_seen, seen_in}
-use Rattle.cert_trim.specs.cert_bytes.Sizes.{most_bytes_in, SpellingsAreShort}
-use Rattle.cert_trim.specs.Behind.{section_of}
 use Rattle.cert_writer.proofs.Sized.{sized_both}
-use Rattle.cert_trim.specs.cert_bytes.Spelling.{spelled_both}
 use Rattle.cert_writer.proofs.Seen.{EndsSection, sections_with}
-use Rattle.box_trace.specs.tree_certificates.Cited.{found_long}
 
 -- ---- items one behind the other
 more_due : (t : Aim) (items more rest : List Item) → AreCertificate (items ++ (more ++ rest))

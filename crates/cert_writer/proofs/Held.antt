@@ -3,29 +3,28 @@ use Rattle.std.specs.Prelude.{◌≡◌, ◌⊎◌, ℕ, List, [], ◌∷◌, �
 use Rattle.std.specs.Prelude.{refl}
 use Rattle.std.specs.Io.KnownBytes.{Appends}
 use Rattle.std.proofs.Common.{sym, ◌∙◌, ap, subst, append-nil, inl, inr}
+use Rattle.fx_model.specs.declared.Node.{Node}
 use Rattle.fx_edge.specs.Outside.{Empties}
-use Rattle.goals.specs.fx_model.declared.Node.{Node}
-use Rattle.goals.specs.facts.declared.hint.HintMark.{HintMark}
-use Rattle.answer_certificates.specs.script_grammar.Cases.{cases_of}
-use Rattle.answer_certificates.specs.script_grammar.Spells.{View}
-use Rattle.cert_trim.specs.cert_bytes.declared.item.Item.{Item}
-use Rattle.cert_trim.specs.cert_bytes.declared.item.Item.TheVariants as item
-use Rattle.cert_trim.specs.cert_bytes.declared.style.Seen.{Seen}
-use Rattle.cert_trim.specs.cert_bytes.declared.style.Style.TheVariants.{Second}
-use Rattle.cert_trim.specs.cert_bytes.Certificates.{SpellsAs}
-use Rattle.cert_trim.specs.cert_bytes.Styles.{none_seen, seen_in}
-use Rattle.cert_trim.specs.cert_bytes.Spelling.{spelling_of, spelled_behind, certificate_of}
-use Rattle.answer_certificates.specs.script_checker.Subjects.{IsSubjectOf}
+use Rattle.facts.specs.declared.hint.HintMark.{HintMark}
+use Rattle.script_grammar.specs.Cases.{cases_of}
+use Rattle.script_grammar.specs.Spells.{View}
+use Rattle.cert_bytes.specs.declared.item.Item.{Item}
+use Rattle.cert_bytes.specs.declared.item.Item.TheVariants as item
+use Rattle.cert_bytes.specs.declared.style.Seen.{Seen}
+use Rattle.cert_bytes.specs.declared.style.Style.TheVariants.{Second}
+use Rattle.cert_bytes.specs.Certificates.{SpellsAs}
+use Rattle.cert_bytes.specs.Styles.{none_seen, seen_in}
+use Rattle.cert_bytes.specs.Spelling.{spelling_of, spelled_behind, certificate_of, spelled_both}
+use Rattle.cert_checker.specs.Accepted.{Accepts}
+use Rattle.script_checker.specs.Subjects.{IsSubjectOf}
+use Rattle.whole_texts.specs.Pieces.{AppendsFront}
 use Rattle.cert_writer.specs.Heads.{head_items}
-use Rattle.box_trace.specs.cert_checker.Accepted.{Accepts}
 use Rattle.cert_writer.specs.Standing.{Aim, IsWhole, IsBegun}
 use Rattle.cert_writer.specs.Courses.{Grew, GrewToFront}
 use Rattle.cert_writer.specs.Cases.{Task, whole_aim, StandsBefore, GrewFront, IsCompleted}
-use Rattle.whole_texts.specs.Pieces.{AppendsFront}
 use Rattle.cert_writer.specs.Laws.{WritingGoesOn}
 use Rattle.cert_writer.specs.Written.{AreWrittenFor, IsAcceptedFront, HoldsCertificate, HoldsFront}
 use Rattle.cert_writer.proofs.NextCase.{stands_begun}
-use Rattle.cert_trim.specs.cert_bytes.Spelling.{spelled_both}
 use Rattle.cert_writer.proofs.Start.{head_of}
 use Rattle.cert_writer.proofs.Turn.{begun_front, begun_later, begun_still, grew_both}
 

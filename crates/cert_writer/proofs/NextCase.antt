@@ -4,35 +4,34 @@ use Rattle.std.specs.Prelude.{slice_get, refl}
 use Rattle.std.proofs.Common.{sym, ◌∙◌, ap, subst, append-nil}
 use Rattle.std.proofs.lemmas.List.{drop_more}
 use Rattle.std.proofs.lemmas.Option.{slice_get_within, get_or_from_slice_get}
-use Rattle.answer_certificates.specs.script_claims.declared.claim.Claim.{Claim}
-use Rattle.answer_certificates.specs.script_claims.Facts.{facts_of}
-use Rattle.answer_certificates.specs.script_grammar.Cases.{cases_of}
-use Rattle.answer_certificates.specs.script_grammar.Spells.{View}
-use Rattle.box_trace.specs.rule_universe.Worlds.{World, IsWhole as IsWholeWorld}
-use Rattle.answer_certificates.specs.box_tree.Pieces.{piece_count}
-use Rattle.answer_certificates.specs.box_tree.Plans.{cut_at, piece_at}
-use Rattle.answer_certificates.specs.box_tree.InRanges.{root_pieces}
-use Rattle.answer_certificates.specs.box_tree.Regions.{PlanParts, region_below}
-use Rattle.cert_trim.specs.cert_bytes.declared.item.Item.{Item}
-use Rattle.box_trace.specs.cert_checker.Contexts.{open_piece}
+use Rattle.script_claims.specs.declared.claim.Claim.{Claim}
+use Rattle.script_claims.specs.Facts.{facts_of}
+use Rattle.script_grammar.specs.Cases.{cases_of}
+use Rattle.script_grammar.specs.Spells.{View}
+use Rattle.rule_universe.specs.Worlds.{World, IsWhole as IsWholeWorld}
+use Rattle.saturate.specs.Universes.{setting_of}
+use Rattle.box_tree.specs.Pieces.{piece_count}
+use Rattle.box_tree.specs.Plans.{cut_at, piece_at}
+use Rattle.box_tree.specs.InRanges.{root_pieces}
+use Rattle.box_tree.specs.Regions.{PlanParts, region_below}
+use Rattle.cert_bytes.specs.declared.item.Item.{Item}
+use Rattle.cert_bytes.specs.declared.item.Item.TheVariants as item
+use Rattle.cert_bytes.specs.declared.style.Seen.{Seen}
+use Rattle.cert_bytes.specs.Styles.{none_seen, seen_in}
+use Rattle.cert_bytes.specs.Spelling.{spelled_behind, certificate_of, spelled_both}
+use Rattle.cert_checker.specs.Contexts.{open_piece}
+use Rattle.tree_certificates.specs.Roots.{Root, IsRoot}
+use Rattle.tree_certificates.specs.Trees.{Tree}
+use Rattle.tree_certificates.specs.Walks.{numbered, LiesIn}
 use Rattle.box_trace.specs.Boxes.{IsBox, IsOfUniverse, IsItsSection}
-use Rattle.box_trace.specs.tree_certificates.Roots.{Root, IsRoot}
-use Rattle.box_trace.specs.tree_certificates.Trees.{Tree}
-use Rattle.box_trace.specs.tree_certificates.Walks.{numbered, LiesIn}
-use Rattle.box_trace.specs.saturate.Universes.{setting_of}
 use Rattle.answer_certificates.specs.Boxes.{boxes_of}
 use Rattle.answer_certificates.specs.Roots.{AreRootsOf}
 use Rattle.answer_certificates.specs.Scripts.{in_case, HasSlots}
-use Rattle.cert_trim.specs.cert_bytes.declared.item.Item.TheVariants as item
-use Rattle.cert_trim.specs.cert_bytes.declared.style.Seen.{Seen}
-use Rattle.cert_trim.specs.cert_bytes.Styles.{none_seen, seen_in}
-use Rattle.cert_trim.specs.cert_bytes.Spelling.{spelled_behind, certificate_of}
 use Rattle.cert_writer.specs.Standing.{IsAim, IsBegun, Ended, HasEnded, next_root}
 use Rattle.cert_writer.specs.Courses.{Course, IsCourse, course, IsBefore, IsPast, Grew, GrewToFront}
 use Rattle.cert_writer.specs.Cases.{Task, task, plan_in, target_of, aim_of, whole_aim, IsBeforeCase}
 use Rattle.cert_writer.specs.Cases.{StandsAt, OfStanding, GrewFront}
 use Rattle.cert_writer.specs.Laws.{WritingGoesOn}
-use Rattle.cert_trim.specs.cert_bytes.Spelling.{spelled_both}
 use Rattle.cert_writer.proofs.Turn.{appends_none, begun_still}
 
 -- ---- lists

@@ -2,30 +2,30 @@
 use Rattle.std.specs.Prelude.{◌≡◌, ◌<◌, ◌≤◌, ◌+◌, ◌-◌, ℕ, zero, suc, List, [], ◌∷◌, ◌++◌, length}
 use Rattle.std.specs.Prelude.{Some, None, slice_get, refl}
 use Rattle.std.proofs.Common.{sym, ◌∙◌, ap, subst, inl, inr, arith}
-use Rattle.goals.specs.fx_model.declared.ExprId.{ExprId}
-use Rattle.goals.specs.dyadic.declared.number.Dyadic.{Dyadic}
-use Rattle.goals.specs.facts.declared.fact.Fact.{Fact}
-use Rattle.goals.specs.facts.declared.fact.Slot.{Slot}
-use Rattle.goals.specs.facts.declared.fact.Fact.TheVariants as fact
-use Rattle.goals.specs.facts.declared.fact.Slot.TheVariants as slot
-use Rattle.goals.specs.facts.Meets.{IsStronger-antisymm}
+use Rattle.fx_model.specs.declared.ExprId.{ExprId}
+use Rattle.dyadic.specs.declared.number.Dyadic.{Dyadic}
+use Rattle.facts.specs.declared.fact.Fact.{Fact}
+use Rattle.facts.specs.declared.fact.Slot.{Slot}
+use Rattle.facts.specs.declared.fact.Fact.TheVariants as fact
+use Rattle.facts.specs.declared.fact.Slot.TheVariants as slot
+use Rattle.facts.specs.Meets.{IsStronger-antisymm}
 use Rattle.goals.specs.declared.goal.Goal.{Goal}
 use Rattle.derivation.specs.Derivations.{Setting, At}
 use Rattle.derivation.specs.Known.{Piece, Known, IsTableAt}
 use Rattle.derivation.specs.Settled.{IsSettled}
 use Rattle.derivation.specs.Parts.{none_some}
-use Rattle.answer_certificates.specs.box_tree.declared.cut.Cut.{Cut}
-use Rattle.answer_certificates.specs.box_tree.declared.cut.Cut.TheVariants.{Forced, Half, Bottom}
-use Rattle.answer_certificates.specs.box_tree.Plans.{cut_at, piece_at, pieces_at}
-use Rattle.answer_certificates.specs.box_tree.Pieces.{piece_count}
-use Rattle.answer_certificates.specs.box_tree.Regions.{PlanParts}
-use Rattle.answer_certificates.specs.bisect.declared.settler.State.{State}
-use Rattle.answer_certificates.specs.bisect.declared.settler.State.TheVariants as state
-use Rattle.answer_certificates.specs.bisect.Trees.{children}
-use Rattle.answer_certificates.specs.settler.Standing.{IsBestKnown, AreSettledBy, StandsAs}
+use Rattle.box_tree.specs.declared.cut.Cut.{Cut}
+use Rattle.box_tree.specs.declared.cut.Cut.TheVariants.{Forced, Half, Bottom}
+use Rattle.box_tree.specs.Plans.{cut_at, piece_at, pieces_at}
+use Rattle.box_tree.specs.Pieces.{piece_count}
+use Rattle.box_tree.specs.Regions.{PlanParts}
+use Rattle.bisect.specs.declared.settler.State.{State}
+use Rattle.bisect.specs.declared.settler.State.TheVariants as state
+use Rattle.bisect.specs.Trees.{children}
+use Rattle.settler.specs.Standing.{IsBestKnown, AreSettledBy, StandsAs}
+use Rattle.tree_certificates.specs.Trees.{Tree, Trees, leaf, cut, AllSettled}
 use Rattle.box_trace.specs.declared.known.Known as seen
 use Rattle.box_trace.specs.Tables.{known_at}
-use Rattle.box_trace.specs.tree_certificates.Trees.{Tree, Trees, leaf, cut, AllSettled}
 use Rattle.answer_certificates.specs.Boxes.{range_of_piece, variable_of, pieces_from, cut_into}
 use Rattle.answer_certificates.specs.Boxes.{boxes_below}
 use Rattle.answer_certificates.specs.Laws.{PiecesAreOfCuts}

@@ -6,9 +6,10 @@ use Rattle.std.specs.Borrow.{Bor}
 use Rattle.std.specs.List.{AllByRecursion}
 use Rattle.std.proofs.Common.{sym, ◌∙◌, ap, subst, inl, inr, arith}
 use Rattle.std.proofs.lemmas.List.{length-map}
-use Rattle.goals.specs.facts.declared.fact.Fact.{Fact}
-use Rattle.goals.specs.facts.declared.fact.Fact.TheVariants as fact
-use Rattle.goals.specs.facts.declared.fact.Slot.TheVariants as slot
+use Rattle.facts.specs.declared.fact.Fact.{Fact}
+use Rattle.facts.specs.declared.fact.Fact.TheVariants as fact
+use Rattle.facts.specs.declared.fact.Slot.TheVariants as slot
+use Rattle.facts.specs.CommonParts.{at_option, void_is}
 use Rattle.goals.specs.declared.goal.Goal.{Goal}
 use Rattle.goals.specs.declared.line.Line.{Line}
 use Rattle.derivation.specs.Derivations.{Setting, Derives, At}
@@ -16,39 +17,37 @@ use Rattle.derivation.specs.Known.{Piece, GivenAt, IsTableAt}
 use Rattle.derivation.specs.Rounds.{IsSame}
 use Rattle.derivation.specs.Parts.{none_some}
 use Rattle.derivation.specs.Laws.{TablesAreOne}
-use Rattle.box_trace.specs.rule_universe.Worlds.{World}
-use Rattle.answer_certificates.specs.box_tree.Plans.{piece_at}
-use Rattle.cert_trim.specs.cert_bytes.declared.item.Item.{Item}
-use Rattle.cert_trim.specs.cert_bytes.declared.item.Item.TheVariants as item
-use Rattle.cert_trim.specs.cert_bytes.declared.item.StepRow.{StepRow}
-use Rattle.cert_trim.specs.cert_bytes.declared.style.Seen.{Seen}
-use Rattle.cert_trim.specs.cert_bytes.Styles.{seen_in}
-use Rattle.box_trace.specs.cert_checker.Contexts.{Context, open_piece}
-use Rattle.box_trace.specs.cert_checker.Open.{Numbered}
-use Rattle.box_trace.specs.cert_checker.Steps.{step_fact}
-use Rattle.box_trace.specs.cert_checker.After.{after}
+use Rattle.rule_universe.specs.Worlds.{World}
+use Rattle.box_tree.specs.Plans.{piece_at}
+use Rattle.cert_bytes.specs.declared.item.Item.{Item}
+use Rattle.cert_bytes.specs.declared.item.Item.TheVariants as item
+use Rattle.cert_bytes.specs.declared.item.StepRow.{StepRow}
+use Rattle.cert_bytes.specs.declared.style.Seen.{Seen}
+use Rattle.cert_bytes.specs.Styles.{seen_in}
+use Rattle.cert_checker.specs.Contexts.{Context, open_piece}
+use Rattle.cert_checker.specs.Open.{Numbered}
+use Rattle.cert_checker.specs.Steps.{step_fact}
+use Rattle.cert_checker.specs.After.{after}
+use Rattle.tree_certificates.specs.Sections.{behind, ArePlaces}
+use Rattle.tree_certificates.specs.Traces.{HaveFields}
+use Rattle.tree_certificates.specs.Trees.{Tree, leaf, cut, AllSettled, IsProved, IsSettledLeaf}
+use Rattle.tree_certificates.specs.Trees.{lines_of_tree, steps_in, steps_in_each}
+use Rattle.tree_certificates.specs.Walks.{numbered, behind_steps, IsBehind, steps_behind}
+use Rattle.tree_certificates.specs.Moves.{WalksMove, AreSteps}
 use Rattle.box_trace.specs.declared.known.Known.{Known}
 use Rattle.box_trace.specs.declared.tracing.Traced.{Traced}
 use Rattle.box_trace.specs.Boxes.{IsSomeBox, IsItsTable, IsTracedIn, AreItsSteps, log_of}
 use Rattle.box_trace.specs.Boxes.{most_steps}
 use Rattle.box_trace.specs.Tables.{known_at, place_in}
-use Rattle.box_trace.specs.tree_certificates.Sections.{behind, ArePlaces}
-use Rattle.box_trace.specs.tree_certificates.Traces.{HaveFields}
-use Rattle.box_trace.specs.tree_certificates.Trees.{Tree, leaf, cut, AllSettled, IsProved}
-use Rattle.box_trace.specs.tree_certificates.Trees.{IsSettledLeaf, lines_of_tree, steps_in}
-use Rattle.box_trace.specs.tree_certificates.Trees.{steps_in_each}
-use Rattle.box_trace.specs.tree_certificates.Walks.{numbered, behind_steps, IsBehind, steps_behind}
-use Rattle.box_trace.specs.tree_certificates.Moves.{WalksMove, AreSteps}
-use Rattle.cert_writer.specs.Boxes.{HasShortList, KnowsVoid, IsClosed, IsEnd, refs_in}
 use Rattle.box_trace.specs.Short.{EndsBox, BoxesAreShort}
 use Rattle.box_trace.specs.Rounds.{IsByRounds}
+use Rattle.cert_writer.specs.Boxes.{HasShortList, KnowsVoid, IsClosed, IsEnd, refs_in}
 use Rattle.cert_writer.specs.Standing.{AreShort, Aim, IsAim, SectionStart, IsAt, HasEnded, AreCited}
 use Rattle.cert_writer.specs.Standing.{most_for, steps_left, closed}
 use Rattle.cert_writer.specs.Courses.{Course, IsCourse, HasBest, IsBefore, setting, best_at}
 use Rattle.cert_writer.specs.Laws.{WritingGoesOn}
 use Rattle.cert_writer.proofs.GoesOn.{enough}
 use Rattle.cert_writer.proofs.Turn.{next_is}
-use Rattle.goals.specs.facts.CommonParts.{at_option, void_is}
 
 -- What is so of a box's own steps.
 pub record OwnSteps (c : Course) (p : SectionStart) (t : Traced) : Type 0 where

@@ -1,16 +1,15 @@
 -- What was seen behind items.
 use Rattle.std.specs.Prelude.{◌≡◌, ◌≤◌, ◌+◌, ℕ, zero, suc, List, [], ◌∷◌, ◌++◌, length, map, refl}
 use Rattle.std.proofs.Common.{◌∙◌, ap, arith}
-use Rattle.goals.specs.fx_model.declared.Node.{Node}
-use Rattle.goals.specs.facts.declared.hint.HintMark.{HintMark}
-use Rattle.cert_trim.specs.cert_bytes.declared.item.Item.{Item}
-use Rattle.cert_trim.specs.cert_bytes.declared.item.Item.TheVariants as item
-use Rattle.cert_trim.specs.cert_bytes.declared.item.StepRow.{StepRow}
-use Rattle.cert_trim.specs.cert_bytes.declared.style.Seen.{Seen}
-use Rattle.cert_trim.specs.cert_bytes.Styles.{none_seen, seen_after, seen_behind, seen_in}
-use Rattle.cert_trim.specs.cert_bytes.Styles.{seen_both}
-use Rattle.box_trace.specs.tree_certificates.Roots.{cases_items}
+use Rattle.fx_model.specs.declared.Node.{Node}
+use Rattle.facts.specs.declared.hint.HintMark.{HintMark}
+use Rattle.cert_bytes.specs.declared.item.Item.{Item}
+use Rattle.cert_bytes.specs.declared.item.Item.TheVariants as item
+use Rattle.cert_bytes.specs.declared.item.StepRow.{StepRow}
+use Rattle.cert_bytes.specs.declared.style.Seen.{Seen}
+use Rattle.cert_bytes.specs.Styles.{none_seen, seen_after, seen_behind, seen_in, seen_both}
 use Rattle.cert_trim.specs.Behind.{section_of}
+use Rattle.tree_certificates.specs.Roots.{cases_items}
 use Rattle.cert_writer.specs.Heads.{head_items}
 
 -- ---- what stands before the root sections is none of it

@@ -2,12 +2,12 @@
 use Rattle.std.specs.Prelude.{◌≡◌, ◌≤◌, ◌<◌, ◌+◌, ◌*◌, ◌^◌, ℕ, zero, suc, List, [], ◌∷◌, ◌++◌}
 use Rattle.std.specs.Prelude.{length, map}
 use Rattle.std.proofs.Common.{arith}
-use Rattle.goals.specs.fx_model.declared.Node.{Node}
-use Rattle.goals.specs.facts.declared.hint.HintMark.{HintMark}
-use Rattle.cert_trim.specs.cert_bytes.declared.item.Item.{Item}
-use Rattle.cert_trim.specs.cert_bytes.declared.item.Item.TheVariants as item
-use Rattle.cert_trim.specs.cert_bytes.Sizes.{most_bytes_in}
-use Rattle.box_trace.specs.tree_certificates.Roots.{cases_items}
+use Rattle.fx_model.specs.declared.Node.{Node}
+use Rattle.facts.specs.declared.hint.HintMark.{HintMark}
+use Rattle.cert_bytes.specs.declared.item.Item.{Item}
+use Rattle.cert_bytes.specs.declared.item.Item.TheVariants as item
+use Rattle.cert_bytes.specs.Sizes.{most_bytes_in}
+use Rattle.tree_certificates.specs.Roots.{cases_items}
 use Rattle.cert_writer.specs.Heads.{head_items}
 
 pub sized_both : (items more : List Item)

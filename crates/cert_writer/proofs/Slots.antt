@@ -3,21 +3,21 @@ use Rattle.std.specs.Prelude.{◌≡◌, ◌<◌, ◌≤◌, ◌+◌, ◌*◌, �
 use Rattle.std.specs.Prelude.{◌∷◌, length, Option, Some, None, get_or, nat_lt, if◌then◌else◌, refl}
 use Rattle.std.proofs.Common.{sym, subst, arith}
 use Rattle.std.proofs.lemmas.Bool.{and_parts}
-use Rattle.goals.specs.fx_model.declared.ExprId.{ExprId}
-use Rattle.goals.specs.facts.declared.fact.Fact.{Fact}
-use Rattle.goals.specs.facts.declared.fact.Slot.{Slot}
-use Rattle.goals.specs.facts.declared.fact.Slot.TheVariants as slot
-use Rattle.goals.specs.facts.Order.{is_same}
-use Rattle.goals.specs.facts.CommonParts.{expr_same}
+use Rattle.fx_model.specs.declared.ExprId.{ExprId}
+use Rattle.pair_closure.specs.Closure.{Pair}
+use Rattle.pair_closure.specs.Reached.{Has}
+use Rattle.facts.specs.declared.fact.Fact.{Fact}
+use Rattle.facts.specs.declared.fact.Slot.{Slot}
+use Rattle.facts.specs.declared.fact.Slot.TheVariants as slot
+use Rattle.facts.specs.Order.{is_same}
+use Rattle.facts.specs.CommonParts.{expr_same}
 use Rattle.goals.specs.declared.goal.Goal.{Goal}
-use Rattle.box_trace.specs.saturate.pair_closure.Closure.{Pair}
-use Rattle.box_trace.specs.saturate.pair_closure.Reached.{Has}
-use Rattle.box_trace.specs.rule_universe.Worlds.{World, HasSlot}
-use Rattle.box_trace.specs.rule_universe.Places.{block_place}
+use Rattle.rule_universe.specs.Worlds.{World, HasSlot}
+use Rattle.rule_universe.specs.Places.{block_place}
+use Rattle.tree_certificates.specs.Trees.{AllSettled}
 use Rattle.box_trace.specs.declared.known.Cited.{Cited}
 use Rattle.box_trace.specs.declared.known.Known.{Known}
 use Rattle.box_trace.specs.Tables.{one_later, pair_number, behind_blocks, row_in, fact_of, known_at}
-use Rattle.box_trace.specs.tree_certificates.Trees.{AllSettled}
 
 module _ (rows : List (Option Cited)) (f : Fact) where
   in_block : (n block : ℕ) (x : ExprId)

@@ -3,18 +3,17 @@ use Rattle.std.specs.Prelude.{◌≡◌, ◌+◌, ℕ, suc, List, [], ◌∷◌,
 use Rattle.std.specs.Prelude.{slice_get}
 use Rattle.std.proofs.Common.{sym, ◌∙◌, ap, append-nil, arith}
 use Rattle.std.proofs.lemmas.List.{append_assoc, map-append}
-use Rattle.goals.specs.fx_model.declared.Node.{Node}
-use Rattle.goals.specs.facts.declared.hint.HintMark.{HintMark}
-use Rattle.cert_trim.specs.cert_bytes.declared.item.Item.{Item}
-use Rattle.cert_trim.specs.cert_bytes.declared.item.Item.TheVariants as item
-use Rattle.cert_trim.specs.cert_bytes.declared.style.Seen.{Seen}
-use Rattle.cert_trim.specs.cert_bytes.Styles.{none_seen, seen_behind}
-use Rattle.cert_trim.specs.cert_bytes.Spelling.{spelling_of, spelled_behind, certificate_of}
-use Rattle.box_trace.specs.tree_certificates.Roots.{cases_items}
-use Rattle.cert_writer.specs.Heads.{head_items}
 use Rattle.std.proofs.Math.Seq.{take-suc}
 use Rattle.std.proofs.lemmas.Option.{slice_get_within, get_or_from_slice_get}
-use Rattle.cert_trim.specs.cert_bytes.Spelling.{spelled_both}
+use Rattle.fx_model.specs.declared.Node.{Node}
+use Rattle.facts.specs.declared.hint.HintMark.{HintMark}
+use Rattle.cert_bytes.specs.declared.item.Item.{Item}
+use Rattle.cert_bytes.specs.declared.item.Item.TheVariants as item
+use Rattle.cert_bytes.specs.declared.style.Seen.{Seen}
+use Rattle.cert_bytes.specs.Styles.{none_seen, seen_behind}
+use Rattle.cert_bytes.specs.Spelling.{spelling_of, spelled_behind, certificate_of, spelled_both}
+use Rattle.tree_certificates.specs.Roots.{cases_items}
+use Rattle.cert_writer.specs.Heads.{head_items}
 use Rattle.cert_writer.proofs.Seen.{nodes_seen, marks_seen}
 
 -- items behind some that are none of what is seen

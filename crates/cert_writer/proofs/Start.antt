@@ -4,40 +4,39 @@ use Rattle.std.specs.List.{AllByRecursion}
 use Rattle.std.proofs.Common.{sym, ◌∙◌, ap, subst, arith}
 use Rattle.std.proofs.lemmas.List.{length-map}
 use Rattle.std.proofs.lemmas.Nat.{mul-le}
-use Rattle.goals.specs.facts.declared.hint.HintMark.{HintMark}
+use Rattle.facts.specs.declared.hint.HintMark.{HintMark}
 use Rattle.goals.specs.declared.goal.Goal.{Goal}
 use Rattle.goals.specs.declared.line.Line.{Line}
 use Rattle.goals.specs.declared.line.Line.TheVariants as line
-use Rattle.answer_certificates.specs.script_claims.declared.claim.Claim.{Claim}
-use Rattle.answer_certificates.specs.script_claims.Facts.{facts_of}
-use Rattle.answer_certificates.specs.script_grammar.Cases.{cases_of}
-use Rattle.answer_certificates.specs.script_grammar.Spells.{View}
-use Rattle.box_trace.specs.rule_universe.Worlds.{World}
-use Rattle.answer_certificates.specs.settler.declared.cases.Case.{Case}
-use Rattle.answer_certificates.specs.settler.Cases.{AreCases, as_many}
-use Rattle.answer_certificates.specs.settler.Answers.{Options, options, IsProved}
-use Rattle.answer_certificates.specs.universe.Universes.{IsUniverse}
-use Rattle.box_trace.specs.saturate.Universes.{setting_of}
-use Rattle.cert_trim.specs.cert_bytes.declared.item.Item.{Item}
-use Rattle.box_trace.specs.cert_checker.declared.subject.Subject.{Subject}
-use Rattle.answer_certificates.specs.script_checker.rewrite_hints.Marks.{AreMarks}
-use Rattle.answer_certificates.specs.script_checker.Subjects.{IsSubjectOf}
-use Rattle.box_trace.specs.tree_certificates.Roots.{Root, AreRoots, IsRoot, steps_in_roots}
-use Rattle.box_trace.specs.tree_certificates.Roots.{lines_of_roots}
-use Rattle.box_trace.specs.tree_certificates.Trees.{Tree}
+use Rattle.script_claims.specs.declared.claim.Claim.{Claim}
+use Rattle.script_claims.specs.Facts.{facts_of}
+use Rattle.script_grammar.specs.Cases.{cases_of}
+use Rattle.script_grammar.specs.Spells.{View}
+use Rattle.rule_universe.specs.Worlds.{World}
+use Rattle.rule_universe.specs.Sizes.{beyond_four}
+use Rattle.saturate.specs.Universes.{setting_of}
+use Rattle.rewrite_hints.specs.Marks.{AreMarks}
+use Rattle.universe.specs.Universes.{IsUniverse}
+use Rattle.settler.specs.declared.cases.Case.{Case}
+use Rattle.settler.specs.Cases.{AreCases, as_many}
+use Rattle.settler.specs.Answers.{Options, options, IsProved}
+use Rattle.cert_bytes.specs.declared.item.Item.{Item}
+use Rattle.cert_bytes.specs.Styles.{none_seen}
+use Rattle.cert_checker.specs.declared.subject.Subject.{Subject}
+use Rattle.script_checker.specs.Subjects.{IsSubjectOf}
+use Rattle.tree_certificates.specs.Roots.{Root, AreRoots, IsRoot, steps_in_roots, lines_of_roots}
+use Rattle.tree_certificates.specs.Trees.{Tree}
+use Rattle.box_trace.specs.Short.{bytes_a_box}
 use Rattle.answer_certificates.specs.Boxes.{boxes_of}
 use Rattle.answer_certificates.specs.Roots.{AreRootsOf, HasRoots}
 use Rattle.answer_certificates.specs.Scripts.{in_case, IsCaseOf, HasCases}
 use Rattle.answer_certificates.specs.Laws.{InstancesAreFew, ScriptsHaveRoots}
-use Rattle.box_trace.specs.rule_universe.Sizes.{beyond_four}
-use Rattle.box_trace.specs.Short.{bytes_a_box}
 use Rattle.answer_certificates.specs.Universes.{UniversesAreSmall}
 use Rattle.cert_writer.specs.Heads.{head_items}
 use Rattle.cert_writer.specs.Standing.{Aim, IsAim, at_root, steps_needed}
 use Rattle.cert_writer.specs.Cases.{bare, subject_in, Task, task, plan_in, aim_of, StandsAt}
 use Rattle.cert_writer.specs.Cases.{StandsBefore}
 use Rattle.cert_writer.specs.Laws.{WritingGoesOn}
-use Rattle.cert_trim.specs.cert_bytes.Styles.{none_seen}
 use Rattle.cert_writer.proofs.NextCase.{drop_none}
 use Rattle.cert_writer.proofs.Seen.{head_seen}
 

@@ -4,27 +4,26 @@ use Rattle.std.specs.List.{AllByRecursion}
 use Rattle.std.proofs.Common.{sym, ◌∙◌, ap, subst, arith}
 use Rattle.std.proofs.lemmas.List.{append_assoc}
 use Rattle.goals.specs.declared.line.Line.{Line}
-use Rattle.cert_trim.specs.cert_bytes.declared.item.Item.{Item}
-use Rattle.cert_trim.specs.cert_bytes.declared.item.Item.TheVariants as item
-use Rattle.cert_trim.specs.cert_bytes.declared.item.StepRow.{StepRow}
-use Rattle.cert_trim.specs.cert_bytes.declared.style.Seen.{Seen}
-use Rattle.cert_trim.specs.cert_bytes.Certificates.{AreCertificate}
-use Rattle.cert_trim.specs.cert_bytes.Styles.{none_seen, seen_after, seen_behind, seen_in}
-use Rattle.box_trace.specs.cert_checker.declared.open.Citable.{Citable}
-use Rattle.box_trace.specs.cert_checker.declared.subject.Subject.{Subject}
-use Rattle.box_trace.specs.cert_checker.Contexts.{Context, first}
-use Rattle.box_trace.specs.cert_checker.After.{after}
-use Rattle.box_trace.specs.cert_checker.Accepted.{LeadsTo}
-use Rattle.box_trace.specs.tree_certificates.Sections.{AllBelow}
-use Rattle.box_trace.specs.tree_certificates.Walks.{behind_steps}
-use Rattle.box_trace.specs.tree_certificates.Moves.{lead_both}
+use Rattle.cert_bytes.specs.declared.item.Item.{Item}
+use Rattle.cert_bytes.specs.declared.item.Item.TheVariants as item
+use Rattle.cert_bytes.specs.declared.item.StepRow.{StepRow}
+use Rattle.cert_bytes.specs.declared.style.Seen.{Seen}
+use Rattle.cert_bytes.specs.Certificates.{AreCertificate}
+use Rattle.cert_bytes.specs.Styles.{none_seen, seen_after, seen_behind, seen_in, seen_both}
+use Rattle.cert_checker.specs.declared.open.Citable.{Citable}
+use Rattle.cert_checker.specs.declared.subject.Subject.{Subject}
+use Rattle.cert_checker.specs.Contexts.{Context, first}
+use Rattle.cert_checker.specs.After.{after}
+use Rattle.cert_checker.specs.Accepted.{LeadsTo}
 use Rattle.cert_trim.specs.Trimmed.{number_behind_all, moved_row, trimmed_by, if_used}
 use Rattle.cert_trim.specs.Used.{CiteEarlier}
 use Rattle.cert_trim.specs.Behind.{stays_behind, trimmed_behind, with_next, IsLeafOrDead, IsOpenAt}
 use Rattle.cert_trim.specs.Behind.{LeavesAreTrimmed, CertificatesStaySo, AreFewer, section_of}
+use Rattle.tree_certificates.specs.Sections.{AllBelow}
+use Rattle.tree_certificates.specs.Walks.{behind_steps}
+use Rattle.tree_certificates.specs.Moves.{lead_both}
 use Rattle.cert_writer.specs.Laws.{OfAims}
 use Rattle.cert_writer.specs.Standing.{SectionStart, IsAt, HasEnded, closed, trimmed}
-use Rattle.cert_trim.specs.cert_bytes.Styles.{seen_both}
 use Rattle.cert_writer.proofs.Sized.{sized_both}
 
 -- Where items lead on from is told by those before.

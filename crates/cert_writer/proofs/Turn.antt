@@ -6,40 +6,38 @@ use Rattle.std.specs.Io.KnownBytes.{Appends}
 use Rattle.std.proofs.Common.{sym, ◌∙◌, ap, subst, append-nil, arith}
 use Rattle.std.proofs.lemmas.List.{append_assoc, length-append}
 use Rattle.std.proofs.lemmas.Option.{slice_get_within}
-use Rattle.goals.specs.fx_model.declared.ExprId.{ExprId}
-use Rattle.goals.specs.fx_model.declared.Node.TheVariants.{Var}
-use Rattle.goals.specs.dyadic.declared.number.Dyadic.{Dyadic}
-use Rattle.goals.specs.interval.declared.interval.Interval.{Interval}
-use Rattle.goals.specs.facts.declared.fact.Fact.{Fact}
-use Rattle.goals.specs.facts.declared.fact.Fact.TheVariants as fact
-use Rattle.goals.specs.facts.declared.fact.Slot.TheVariants as slot
+use Rattle.fx_model.specs.declared.ExprId.{ExprId}
+use Rattle.fx_model.specs.declared.Node.TheVariants.{Var}
+use Rattle.dyadic.specs.declared.number.Dyadic.{Dyadic}
+use Rattle.interval.specs.declared.interval.Interval.{Interval}
+use Rattle.facts.specs.declared.fact.Fact.{Fact}
+use Rattle.facts.specs.declared.fact.Fact.TheVariants as fact
+use Rattle.facts.specs.declared.fact.Slot.TheVariants as slot
 use Rattle.derivation.specs.Derivations.{Setting}
 use Rattle.derivation.specs.Known.{Piece, IsTableAt}
 use Rattle.derivation.specs.Exists.{joined}
 use Rattle.derivation.specs.Rounds.{IsSame}
 use Rattle.derivation.specs.Laws.{TablesAreOne}
-use Rattle.box_trace.specs.rule_universe.Worlds.{World}
-use Rattle.answer_certificates.specs.box_tree.Plans.{piece_at, pieces_at, with_last}
-use Rattle.cert_trim.specs.cert_bytes.declared.item.Item.{Item}
-use Rattle.cert_trim.specs.cert_bytes.declared.item.Item.TheVariants as item
-use Rattle.cert_trim.specs.cert_bytes.declared.item.StepRow.{StepRow}
-use Rattle.cert_trim.specs.cert_bytes.declared.style.Seen.{Seen}
-use Rattle.cert_trim.specs.cert_bytes.Styles.{none_seen, seen_behind, seen_in}
-use Rattle.cert_trim.specs.cert_bytes.Spelling.{spelled_behind, certificate_of}
+use Rattle.rule_universe.specs.Worlds.{World}
+use Rattle.box_tree.specs.Plans.{piece_at, pieces_at, with_last}
+use Rattle.cert_bytes.specs.declared.item.Item.{Item}
+use Rattle.cert_bytes.specs.declared.item.Item.TheVariants as item
+use Rattle.cert_bytes.specs.declared.item.StepRow.{StepRow}
+use Rattle.cert_bytes.specs.declared.style.Seen.{Seen}
+use Rattle.cert_bytes.specs.Styles.{none_seen, seen_behind, seen_in, seen_both}
+use Rattle.cert_bytes.specs.Spelling.{spelled_behind, certificate_of, spelled_both}
+use Rattle.cert_checker.specs.Contexts.{open_piece, piece_fact}
+use Rattle.cert_checker.specs.Open.{Numbered}
+use Rattle.cert_checker.specs.Steps.{step_fact, met_with, IsEnough}
 use Rattle.cert_trim.specs.Behind.{section_of}
-use Rattle.box_trace.specs.cert_checker.Contexts.{open_piece, piece_fact}
-use Rattle.box_trace.specs.cert_checker.Open.{Numbered}
-use Rattle.box_trace.specs.cert_checker.Steps.{step_fact, met_with, IsEnough}
+use Rattle.tree_certificates.specs.Sections.{ArePlaces}
+use Rattle.tree_certificates.specs.Traces.{IsCutTo}
+use Rattle.tree_certificates.specs.Trees.{Tree, Trees, cut, last, next, cut_of, IsProved, AreProved}
+use Rattle.tree_certificates.specs.Walks.{numbered, behind_steps, Frame, IsPieceOf, LiesIn}
+use Rattle.tree_certificates.specs.Moves.{frame_of, turned, next_behind}
 use Rattle.box_trace.specs.declared.known.Known.{Known}
 use Rattle.box_trace.specs.Boxes.{IsBox, IsOfUniverse, IsItsSection}
 use Rattle.box_trace.specs.Tables.{known_at, place_in, HasRows}
-use Rattle.box_trace.specs.tree_certificates.Sections.{ArePlaces}
-use Rattle.box_trace.specs.tree_certificates.Traces.{IsCutTo}
-use Rattle.box_trace.specs.tree_certificates.Trees.{Tree, Trees, cut, last, next, cut_of, IsProved}
-use Rattle.box_trace.specs.tree_certificates.Trees.{AreProved}
-use Rattle.box_trace.specs.tree_certificates.Walks.{numbered, behind_steps, Frame, IsPieceOf}
-use Rattle.box_trace.specs.tree_certificates.Walks.{LiesIn}
-use Rattle.box_trace.specs.tree_certificates.Moves.{frame_of, turned, next_behind}
 use Rattle.answer_certificates.specs.Boxes.{range_of_piece, pieces_from}
 use Rattle.whole_texts.specs.Pieces.{AppendsFront, appends_both}
 use Rattle.cert_writer.specs.Standing.{Aim, IsBegun, SectionStart, IsAt, Ended, HasEnded}
@@ -47,8 +45,6 @@ use Rattle.cert_writer.specs.Standing.{AreBoxSteps, AreShort, inside, beside, ar
 use Rattle.cert_writer.specs.Courses.{Course, IsCourse, HasBest, setting, best_at, below, Grew}
 use Rattle.cert_writer.specs.Courses.{GrewToFront, IsBefore, IsPast, IsKnownAt, IsWithin, HasDone}
 use Rattle.cert_writer.specs.Laws.{WritingGoesOn}
-use Rattle.cert_trim.specs.cert_bytes.Styles.{seen_both}
-use Rattle.cert_trim.specs.cert_bytes.Spelling.{spelled_both}
 use Rattle.cert_writer.proofs.Seen.{own_steps_seen, seen_with}
 
 -- ---- what the file takes

@@ -1,31 +1,31 @@
 -- The walk over a script's cases, which writes the root section of each: where it stands.
 use Rattle.std.specs.Prelude.{◌≡◌, ℕ, List, [], ◌∷◌, ◌++◌, drop, length, map, Option}
-use Rattle.goals.specs.facts.declared.hint.HintMark.{HintMark}
+use Rattle.facts.specs.declared.hint.HintMark.{HintMark}
 use Rattle.goals.specs.declared.line.Line.{Line}
-use Rattle.answer_certificates.specs.script_claims.declared.claim.Claim.{Claim}
-use Rattle.answer_certificates.specs.script_claims.Facts.{goal_of, facts_of}
-use Rattle.answer_certificates.specs.script_grammar.Cases.{cases_of}
-use Rattle.answer_certificates.specs.script_grammar.Spells.{View}
-use Rattle.box_trace.specs.rule_universe.Assumed.{assuming}
-use Rattle.box_trace.specs.rule_universe.Worlds.{World}
-use Rattle.answer_certificates.specs.universe.Universes.{IsUniverse}
-use Rattle.answer_certificates.specs.box_tree.Regions.{PlanParts}
-use Rattle.answer_certificates.specs.bisect.declared.settler.State.{State}
-use Rattle.answer_certificates.specs.settler.Answers.{plan_of}
-use Rattle.answer_certificates.specs.settler.Cases.{AreCases}
-use Rattle.answer_certificates.specs.settler.declared.cases.Case.{Case}
-use Rattle.answer_certificates.specs.settler.Standing.{AreStates}
-use Rattle.cert_trim.specs.cert_bytes.declared.item.Item.{Item}
-use Rattle.cert_trim.specs.cert_bytes.declared.item.Item.TheVariants as item
-use Rattle.cert_trim.specs.cert_bytes.declared.style.Seen.{Seen}
-use Rattle.box_trace.specs.cert_checker.declared.subject.Subject.{Subject}
-use Rattle.box_trace.specs.tree_certificates.Roots.{Root}
+use Rattle.script_claims.specs.declared.claim.Claim.{Claim}
+use Rattle.script_claims.specs.Facts.{goal_of, facts_of}
+use Rattle.script_grammar.specs.Cases.{cases_of}
+use Rattle.script_grammar.specs.Spells.{View}
+use Rattle.rule_universe.specs.Assumed.{assuming}
+use Rattle.rule_universe.specs.Worlds.{World}
+use Rattle.universe.specs.Universes.{IsUniverse}
+use Rattle.box_tree.specs.Regions.{PlanParts}
+use Rattle.bisect.specs.declared.settler.State.{State}
+use Rattle.settler.specs.Answers.{plan_of}
+use Rattle.settler.specs.Cases.{AreCases}
+use Rattle.settler.specs.declared.cases.Case.{Case}
+use Rattle.settler.specs.Standing.{AreStates}
+use Rattle.cert_bytes.specs.declared.item.Item.{Item}
+use Rattle.cert_bytes.specs.declared.item.Item.TheVariants as item
+use Rattle.cert_bytes.specs.declared.style.Seen.{Seen}
+use Rattle.cert_bytes.specs.Styles.{seen_in}
+use Rattle.cert_bytes.specs.Spelling.{certificate_of}
+use Rattle.cert_checker.specs.declared.subject.Subject.{Subject}
+use Rattle.tree_certificates.specs.Roots.{Root}
+use Rattle.box_trace.specs.Short.{bytes_a_box}
 use Rattle.answer_certificates.specs.Boxes.{boxes_of}
 use Rattle.answer_certificates.specs.Roots.{AreRootsOf}
 use Rattle.answer_certificates.specs.Scripts.{in_case}
-use Rattle.box_trace.specs.Short.{bytes_a_box}
-use Rattle.cert_trim.specs.cert_bytes.Styles.{seen_in}
-use Rattle.cert_trim.specs.cert_bytes.Spelling.{certificate_of}
 use Rattle.cert_writer.specs.Standing.{Target, Aim, IsAim, IsWhole, SectionStart, IsAt}
 use Rattle.cert_writer.specs.Courses.{Grew, GrewToFront}
 

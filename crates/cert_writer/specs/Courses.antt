@@ -3,32 +3,32 @@ use Rattle.std.specs.Prelude.{◌≡◌, ◌<◌, ◌≤◌, ◌+◌, ◌-◌, �
 use Rattle.std.specs.Prelude.{None}
 use Rattle.std.specs.Io.KnownBytes.{Appends}
 use Rattle.std.specs.Borrow.{Bor}
-use Rattle.goals.specs.facts.declared.fact.Slot.TheVariants as slot
+use Rattle.facts.specs.declared.fact.Slot.TheVariants as slot
 use Rattle.goals.specs.declared.line.Line.{Line}
 use Rattle.derivation.specs.Derivations.{Setting, At}
 use Rattle.derivation.specs.Known.{Piece, IsTableAt}
 use Rattle.derivation.specs.Exists.{table_at}
-use Rattle.box_trace.specs.saturate.Universes.{setting_of}
-use Rattle.box_trace.specs.rule_universe.Worlds.{World, IsWhole}
-use Rattle.answer_certificates.specs.box_tree.Plans.{cut_at, piece_at, pieces_at}
-use Rattle.answer_certificates.specs.box_tree.Pieces.{piece_count}
-use Rattle.answer_certificates.specs.box_tree.Regions.{PlanParts}
-use Rattle.answer_certificates.specs.bisect.declared.settler.State.{State}
-use Rattle.answer_certificates.specs.settler.Standing.{AreStates}
-use Rattle.cert_trim.specs.cert_bytes.declared.item.Item.{Item}
-use Rattle.cert_trim.specs.cert_bytes.declared.item.StepRow.{StepRow}
-use Rattle.cert_trim.specs.cert_bytes.declared.style.Seen.{Seen}
+use Rattle.rule_universe.specs.Worlds.{World, IsWhole}
+use Rattle.saturate.specs.Universes.{setting_of}
+use Rattle.box_tree.specs.Plans.{cut_at, piece_at, pieces_at}
+use Rattle.box_tree.specs.Pieces.{piece_count}
+use Rattle.box_tree.specs.Regions.{PlanParts}
+use Rattle.bisect.specs.declared.settler.State.{State}
+use Rattle.settler.specs.Standing.{AreStates}
+use Rattle.cert_bytes.specs.declared.item.Item.{Item}
+use Rattle.cert_bytes.specs.declared.item.StepRow.{StepRow}
+use Rattle.cert_bytes.specs.declared.style.Seen.{Seen}
+use Rattle.cert_bytes.specs.Styles.{seen_in}
+use Rattle.cert_bytes.specs.Spelling.{spelled_behind, certificate_of}
+use Rattle.cert_checker.specs.Contexts.{open_piece}
+use Rattle.cert_checker.specs.Open.{Numbered}
 use Rattle.cert_trim.specs.Behind.{IsLeafOrDead, section_of, trimmed_behind}
-use Rattle.cert_trim.specs.cert_bytes.Styles.{seen_in}
-use Rattle.cert_trim.specs.cert_bytes.Spelling.{spelled_behind, certificate_of}
-use Rattle.box_trace.specs.cert_checker.Contexts.{open_piece}
-use Rattle.box_trace.specs.cert_checker.Open.{Numbered}
+use Rattle.tree_certificates.specs.Sections.{ArePlaces}
+use Rattle.tree_certificates.specs.Trees.{Tree}
+use Rattle.tree_certificates.specs.Walks.{numbered, Frame}
 use Rattle.box_trace.specs.declared.known.Known.{Known}
 use Rattle.box_trace.specs.Boxes.{IsBox, IsOfUniverse, IsItsSection}
 use Rattle.box_trace.specs.Tables.{known_at, place_in, HasRows}
-use Rattle.box_trace.specs.tree_certificates.Sections.{ArePlaces}
-use Rattle.box_trace.specs.tree_certificates.Trees.{Tree}
-use Rattle.box_trace.specs.tree_certificates.Walks.{numbered, Frame}
 use Rattle.answer_certificates.specs.Scripts.{HasSlots}
 use Rattle.answer_certificates.specs.Boxes.{range_of_piece, pieces_from, boxes_below}
 use Rattle.whole_texts.specs.Pieces.{AppendsFront}

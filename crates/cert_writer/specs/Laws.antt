@@ -1,30 +1,30 @@
 -- What is promised of a certificate that is written box by box.
 use Rattle.std.specs.Prelude.{◌≡◌, ◌<◌, ◌≤◌, ◌+◌, ◌*◌, ℕ, List, [], ◌∷◌, ◌++◌, length, map, Some}
 use Rattle.std.specs.Prelude.{None}
-use Rattle.goals.specs.fx_model.declared.ExprId.{ExprId}
-use Rattle.goals.specs.dyadic.declared.number.Dyadic.{Dyadic}
-use Rattle.goals.specs.interval.declared.interval.Interval.{Interval}
-use Rattle.goals.specs.facts.declared.fact.Fact.{Fact}
-use Rattle.goals.specs.facts.declared.fact.Fact.TheVariants as fact
-use Rattle.goals.specs.facts.declared.fact.Slot.TheVariants as slot
+use Rattle.fx_model.specs.declared.ExprId.{ExprId}
+use Rattle.dyadic.specs.declared.number.Dyadic.{Dyadic}
+use Rattle.interval.specs.declared.interval.Interval.{Interval}
+use Rattle.facts.specs.declared.fact.Fact.{Fact}
+use Rattle.facts.specs.declared.fact.Fact.TheVariants as fact
+use Rattle.facts.specs.declared.fact.Slot.TheVariants as slot
 use Rattle.goals.specs.declared.line.Line.{Line}
 use Rattle.goals.specs.declared.line.Line.TheVariants as line
 use Rattle.derivation.specs.Exists.{table_at}
-use Rattle.box_trace.specs.saturate.Universes.{setting_of}
-use Rattle.cert_trim.specs.cert_bytes.declared.item.Item.{Item}
-use Rattle.cert_trim.specs.cert_bytes.declared.item.Item.TheVariants as item
-use Rattle.cert_trim.specs.cert_bytes.declared.item.StepRow.{StepRow}
-use Rattle.box_trace.specs.Short.{bytes_a_box}
-use Rattle.cert_trim.specs.cert_bytes.Spelling.{certificate_of}
-use Rattle.box_trace.specs.cert_checker.Contexts.{Context}
-use Rattle.box_trace.specs.cert_checker.Steps.{step_fact}
-use Rattle.box_trace.specs.tree_certificates.Trees.{Tree, Trees, leaf, cut, last, next, IsProved}
-use Rattle.box_trace.specs.tree_certificates.Trees.{lines_of_tree, steps_in}
-use Rattle.box_trace.specs.tree_certificates.Roots.{Root}
-use Rattle.box_trace.specs.tree_certificates.Walks.{behind_steps, Frame}
-use Rattle.box_trace.specs.tree_certificates.Moves.{AreSteps}
+use Rattle.saturate.specs.Universes.{setting_of}
+use Rattle.cert_bytes.specs.declared.item.Item.{Item}
+use Rattle.cert_bytes.specs.declared.item.Item.TheVariants as item
+use Rattle.cert_bytes.specs.declared.item.StepRow.{StepRow}
+use Rattle.cert_bytes.specs.Spelling.{certificate_of}
+use Rattle.cert_checker.specs.Contexts.{Context}
+use Rattle.cert_checker.specs.Steps.{step_fact}
 use Rattle.cert_trim.specs.Behind.{IsLeafOrDead, section_of}
 use Rattle.cert_trim.specs.Used.{CiteEarlier}
+use Rattle.tree_certificates.specs.Trees.{Tree, Trees, leaf, cut, last, next, IsProved}
+use Rattle.tree_certificates.specs.Trees.{lines_of_tree, steps_in}
+use Rattle.tree_certificates.specs.Roots.{Root}
+use Rattle.tree_certificates.specs.Walks.{behind_steps, Frame}
+use Rattle.tree_certificates.specs.Moves.{AreSteps}
+use Rattle.box_trace.specs.Short.{bytes_a_box}
 use Rattle.cert_writer.specs.Standing.{Aim, IsAim, IsWhole, IsBegun, SectionStart, IsAt, Ended}
 use Rattle.cert_writer.specs.Standing.{HasEnded, AreBoxSteps, AreShort, AreCited, most_for}
 use Rattle.cert_writer.specs.Standing.{steps_left, lines_left, at_root, inside, closed, trimmed}

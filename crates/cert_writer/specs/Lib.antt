@@ -1,5 +1,3 @@
--- What callers name of the crates below.
-pub use Rattle.goals.specs as goals
 pub mod Files
 pub mod Heads
 pub mod Boxes

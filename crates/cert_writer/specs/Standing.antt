@@ -1,43 +1,43 @@
 -- Where a certificate that is being written stands.
 use Rattle.std.specs.Prelude.{◌≡◌, ◌<◌, ◌≤◌, ◌+◌, ◌*◌, ◌^◌, ⊤, ℕ, suc, List, [], ◌∷◌, ◌++◌, length}
 use Rattle.std.specs.Prelude.{Some}
-use Rattle.goals.specs.fx_model.declared.ExprId.{ExprId}
-use Rattle.goals.specs.dyadic.declared.number.Dyadic.{Dyadic}
-use Rattle.goals.specs.interval.declared.interval.Interval.{Interval}
-use Rattle.goals.specs.facts.declared.fact.Fact.{Fact}
+use Rattle.fx_model.specs.declared.ExprId.{ExprId}
+use Rattle.dyadic.specs.declared.number.Dyadic.{Dyadic}
+use Rattle.interval.specs.declared.interval.Interval.{Interval}
+use Rattle.facts.specs.declared.fact.Fact.{Fact}
 use Rattle.goals.specs.declared.goal.Goal.{Goal}
 use Rattle.goals.specs.declared.line.Line.{Line}
 use Rattle.goals.specs.Settles.{Settles}
 use Rattle.derivation.specs.Derivations.{At}
 use Rattle.derivation.specs.Known.{Piece}
-use Rattle.box_trace.specs.rule_universe.Worlds.{World}
-use Rattle.box_trace.specs.saturate.Universes.{setting_of}
-use Rattle.cert_trim.specs.cert_bytes.declared.item.Item.{Item}
-use Rattle.cert_trim.specs.cert_bytes.declared.item.Item.TheVariants as item
-use Rattle.cert_trim.specs.cert_bytes.declared.item.StepRow.{StepRow}
-use Rattle.cert_trim.specs.cert_bytes.declared.order.DueItem.TheVariants.{Sections}
-use Rattle.cert_trim.specs.cert_bytes.Certificates.{AreDue, AreCertificate}
-use Rattle.cert_trim.specs.cert_bytes.Fronts.{IsFront}
-use Rattle.cert_trim.specs.cert_bytes.Sizes.{most_bytes_in}
-use Rattle.box_trace.specs.rule_universe.Sizes.{IsSmall}
-use Rattle.box_trace.specs.Short.{bytes_a_box}
-use Rattle.cert_trim.specs.cert_bytes.Spelling.{certificate_of}
-use Rattle.cert_trim.specs.cert_bytes.Styles.{seen_in}
-use Rattle.box_trace.specs.cert_checker.declared.open.Citable.{Citable}
-use Rattle.box_trace.specs.cert_checker.declared.subject.Subject.{Subject}
-use Rattle.box_trace.specs.cert_checker.Contexts.{Context, first}
-use Rattle.box_trace.specs.cert_checker.Steps.{step_fact}
-use Rattle.box_trace.specs.cert_checker.After.{after}
-use Rattle.box_trace.specs.cert_checker.Accepted.{LeadsTo, Accepts}
-use Rattle.box_trace.specs.tree_certificates.Writing.{IsWritable}
-use Rattle.box_trace.specs.tree_certificates.Trees.{Tree, Trees, lines_of_tree, steps_in}
-use Rattle.box_trace.specs.tree_certificates.Trees as trees
-use Rattle.box_trace.specs.tree_certificates.Roots.{Root, AreRoots, steps_in_roots, lines_of_roots}
-use Rattle.box_trace.specs.tree_certificates.Walks.{behind_steps, IsBehind, IsEndOf, Frame, LiesIn}
-use Rattle.box_trace.specs.tree_certificates.Walks.{left_in, lines_behind, steps_behind}
-use Rattle.box_trace.specs.tree_certificates.Moves.{AreSteps, IsEntered, frame_of, turned}
+use Rattle.rule_universe.specs.Worlds.{World}
+use Rattle.rule_universe.specs.Sizes.{IsSmall}
+use Rattle.saturate.specs.Universes.{setting_of}
+use Rattle.cert_bytes.specs.declared.item.Item.{Item}
+use Rattle.cert_bytes.specs.declared.item.Item.TheVariants as item
+use Rattle.cert_bytes.specs.declared.item.StepRow.{StepRow}
+use Rattle.cert_bytes.specs.declared.order.DueItem.TheVariants.{Sections}
+use Rattle.cert_bytes.specs.Certificates.{AreDue, AreCertificate}
+use Rattle.cert_bytes.specs.Fronts.{IsFront}
+use Rattle.cert_bytes.specs.Sizes.{most_bytes_in}
+use Rattle.cert_bytes.specs.Spelling.{certificate_of}
+use Rattle.cert_bytes.specs.Styles.{seen_in}
+use Rattle.cert_checker.specs.declared.open.Citable.{Citable}
+use Rattle.cert_checker.specs.declared.subject.Subject.{Subject}
+use Rattle.cert_checker.specs.Contexts.{Context, first}
+use Rattle.cert_checker.specs.Steps.{step_fact}
+use Rattle.cert_checker.specs.After.{after}
+use Rattle.cert_checker.specs.Accepted.{LeadsTo, Accepts}
 use Rattle.cert_trim.specs.Behind.{section_of, trimmed_behind, with_next}
 use Rattle.cert_trim.specs.Trimmed.{number_behind_all}
+use Rattle.tree_certificates.specs.Writing.{IsWritable}
+use Rattle.tree_certificates.specs.Trees.{Tree, Trees, lines_of_tree, steps_in}
+use Rattle.tree_certificates.specs.Trees as trees
+use Rattle.tree_certificates.specs.Roots.{Root, AreRoots, steps_in_roots, lines_of_roots}
+use Rattle.tree_certificates.specs.Walks.{behind_steps, IsBehind, IsEndOf, Frame, LiesIn, left_in}
+use Rattle.tree_certificates.specs.Walks.{lines_behind, steps_behind}
+use Rattle.tree_certificates.specs.Moves.{AreSteps, IsEntered, frame_of, turned}
+use Rattle.box_trace.specs.Short.{bytes_a_box}
 use Rattle.cert_writer.specs.Heads.{head_items}
 
 -- ---- what is written

@@ -1,15 +1,15 @@
 -- What the calls of the walk answer.
 use Rattle.std.specs.Prelude.{◌≡◌, ◌+◌, ℕ, List, [], ◌∷◌, ◌++◌, length, Some, None}
 use Rattle.derivation.specs.Laws.{TablesAreOne, BoxesComeToOneState}
-use Rattle.box_trace.specs.rule_universe.Worlds.{World}
-use Rattle.answer_certificates.specs.box_tree.declared.cut.Cut.{Cut}
-use Rattle.answer_certificates.specs.box_tree.Plans.{piece_at, pieces_at, with_last}
-use Rattle.answer_certificates.specs.box_tree.Regions.{PlanParts}
-use Rattle.cert_trim.specs.cert_bytes.declared.item.Item.{Item}
-use Rattle.cert_trim.specs.cert_bytes.declared.item.Item.TheVariants as item
+use Rattle.rule_universe.specs.Worlds.{World}
+use Rattle.box_tree.specs.declared.cut.Cut.{Cut}
+use Rattle.box_tree.specs.Plans.{piece_at, pieces_at, with_last}
+use Rattle.box_tree.specs.Regions.{PlanParts}
+use Rattle.cert_bytes.specs.declared.item.Item.{Item}
+use Rattle.cert_bytes.specs.declared.item.Item.TheVariants as item
+use Rattle.tree_certificates.specs.Moves.{WalksMove}
 use Rattle.box_trace.specs.declared.known.Known.{Known}
 use Rattle.box_trace.specs.Tables.{known_at}
-use Rattle.box_trace.specs.tree_certificates.Moves.{WalksMove}
 use Rattle.answer_certificates.specs.Laws.{PiecesAreOfCuts}
 use Rattle.cert_writer.specs.Boxes.{CutsAt, IsClosed, IsEnd}
 use Rattle.cert_writer.specs.Courses.{Course, IsCourse, HasBest}

@@ -1,13 +1,13 @@
 -- What a written certificate is to a script.
 use Rattle.std.specs.Prelude.{◌≡◌, ◌≤◌, ◌⊎◌, ◌^◌, ⊤, ℕ, List, length, Option, Some, None}
 use Rattle.goals.specs.declared.line.Line.{Line}
-use Rattle.answer_certificates.specs.script_grammar.Spells.{View}
-use Rattle.answer_certificates.specs.settler.Answers.{options, IsProved}
-use Rattle.cert_trim.specs.cert_bytes.declared.style.Style.TheVariants.{Second}
-use Rattle.cert_trim.specs.cert_bytes.Certificates.{SpellsAs}
-use Rattle.cert_trim.specs.cert_bytes.Fronts.{IsFront}
-use Rattle.cert_trim.specs.cert_bytes.Styles.{none_seen}
-use Rattle.answer_certificates.specs.script_checker.Checking.{AreAcceptedFor}
+use Rattle.script_grammar.specs.Spells.{View}
+use Rattle.settler.specs.Answers.{options, IsProved}
+use Rattle.cert_bytes.specs.declared.style.Style.TheVariants.{Second}
+use Rattle.cert_bytes.specs.Certificates.{SpellsAs}
+use Rattle.cert_bytes.specs.Fronts.{IsFront}
+use Rattle.cert_bytes.specs.Styles.{none_seen}
+use Rattle.script_checker.specs.Checking.{AreAcceptedFor}
 
 -- With so many rounds, and boxes that are halved so often at most, of which there may be some
 -- number up to 8,192, the script is proved.

@@ -1,22 +1,25 @@
 //! The sections of a script's cases, one after the other.
 ghost use Rattle.std.specs.Prelude.{◌≡◌, ◌<◌, ◌+◌, List, length, IfOk, IsErrOf, OnOk, OnErr};
-ghost use Rattle.answer_certificates.specs.script_claims.declared.claim.Claim.{Claim};
-ghost use Rattle.answer_certificates.specs.universe.Universes.{IsUniverse};
 ghost use Rattle.std.specs.Io.KnownBytes.{Appends};
-ghost use Rattle.cert_trim.specs.cert_bytes.declared.item.Item.TheVariants as item;
-ghost use Rattle.cert_trim.specs.cert_bytes.Styles.{none_seen};
-ghost use Rattle.cert_trim.specs.cert_bytes.Spelling.{spelling_of};
+ghost use Rattle.script_claims.specs.declared.claim.Claim.{Claim};
+ghost use Rattle.universe.specs.Universes.{IsUniverse};
+ghost use Rattle.cert_bytes.specs.declared.item.Item.TheVariants as item;
+ghost use Rattle.cert_bytes.specs.Styles.{none_seen};
+ghost use Rattle.cert_bytes.specs.Spelling.{spelling_of};
 ghost use Rattle.whole_texts.specs.OnlyWrites.{OnlyWrites};
 ghost use Rattle.whole_texts.specs.Pieces.{AppendsFront};
-ghost use Rattle.cert_writer.specs.Cases.{bare, IsPlanned, Stands, OfStanding, GoesOn};
-ghost use Rattle.cert_writer.specs.Cases.{IsCompleted, GrewFront};
+ghost use Rattle.cert_writer.specs.Cases.{bare, IsPlanned, Stands, OfStanding, GoesOn, IsCompleted};
+ghost use Rattle.cert_writer.specs.Cases.{GrewFront};
 ghost use Rattle.cert_writer.specs.declared.walk.WriteStop.TheVariants as WriteStop;
 
 use crate::laws::writing_goes_on;
 use crate::walk::{WriteStop, write_box};
-use answer_certificates::{Case, Script, assume, script_has_room};
-use box_trace::Universe;
-use cert_trim::{Item, Seen, write_item2};
+use settler::Case;
+use script_grammar::Script;
+use universe::assume;
+use answer_certificates::script_has_room;
+use rule_universe::Universe;
+use cert_bytes::{Item, Seen, write_item2};
 use fx_edge::{Folder, Path};
 use std::alloc::Global;
 use whole_texts::append_all;

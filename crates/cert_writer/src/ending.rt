@@ -1,17 +1,21 @@
 //! How a box's own items end.
 ghost use Rattle.std.specs.Prelude.{◌≡◌, ◌↔◌, ◌∷◌, [], IsTrue, IfOk};
-ghost use Rattle.box_trace.specs.rule_universe.Worlds.{HasSlot};
+ghost use Rattle.rule_universe.specs.Worlds.{HasSlot};
+ghost use Rattle.tree_certificates.specs.Trees.{AllSettled};
 ghost use Rattle.box_trace.specs.Tables.{known_at, HasRows};
-ghost use Rattle.box_trace.specs.tree_certificates.Trees.{AllSettled};
 ghost use Rattle.answer_certificates.specs.Scripts.{HasSlots};
 ghost use Rattle.cert_writer.specs.Boxes.{IsSettled, CutsAt, IsEnd, IsClosed};
 
 use crate::spell::refs_of;
-use answer_certificates::Cut;
-use box_trace::{Known, Universe};
-use cert_trim::Item;
+use box_tree::Cut;
+use box_trace::Known;
+use rule_universe::Universe;
+use cert_bytes::Item;
 use fx_edge::Items;
-use goals::{Dyadic, ExprId, Goal, Points, Slot, settles};
+use dyadic::{Dyadic, Points};
+use fx_model::ExprId;
+use goals::{Goal, settles};
+use facts::Slot;
 use std::alloc::{AllocError, Global};
 
 // Whether the goal is settled by what is known.

@@ -1,15 +1,16 @@
 //! The head of a certificate.
 ghost use Rattle.std.specs.Prelude.{◌≡◌, ◌++◌, ◌≤◌, length, map, OnOk};
-ghost use Rattle.cert_trim.specs.cert_bytes.declared.item.Item.TheVariants as item;
-ghost use Rattle.cert_trim.specs.cert_bytes.Certificates.{HasSpelling};
-ghost use Rattle.cert_trim.specs.cert_bytes.Styles.{none_seen};
-ghost use Rattle.cert_trim.specs.cert_bytes.Spelling.{spelling_of, certificate_of};
-ghost use Rattle.box_trace.specs.tree_certificates.Roots.{cases_items};
+ghost use Rattle.cert_bytes.specs.declared.item.Item.TheVariants as item;
+ghost use Rattle.cert_bytes.specs.Certificates.{HasSpelling};
+ghost use Rattle.cert_bytes.specs.Styles.{none_seen};
+ghost use Rattle.cert_bytes.specs.Spelling.{spelling_of, certificate_of};
+ghost use Rattle.tree_certificates.specs.Roots.{cases_items};
 ghost use Rattle.cert_writer.specs.Heads.{head_items};
 
-use cert_trim::{Item, Seen, write_item2};
-use derivation::Dag;
-use goals::{ExprId, HintMark};
+use cert_bytes::{Item, Seen, write_item2};
+use expr_dag::Dag;
+use fx_model::ExprId;
+use facts::HintMark;
 use std::alloc::AllocError;
 
 // Appends an item that stands before the first step and before the end of the first section.

@@ -3,9 +3,12 @@
 ghost use Rattle.cert_writer.specs.Laws.{WritingGoesOn};
 ghost use Rattle.cert_writer.specs.Walks.{WalkGoesOn};
 
-use answer_certificates::{Plan, pieces_are_of_cuts};
-use box_trace::{certificates_exist, rules_are_lawful, walks_move};
-use cert_trim::{leaves_are_trimmed, spellings_are_short};
+use box_tree::Plan;
+use answer_certificates::pieces_are_of_cuts;
+use tree_certificates::{certificates_exist, walks_move};
+use saturate::rules_are_lawful;
+use cert_trim::leaves_are_trimmed;
+use cert_bytes::spellings_are_short;
 use derivation::{best_tables_exist, boxes_come_to_one_state};
 
 /// Nothing is done. The clause tells a caller how a certificate goes on from box to box, that it is

@@ -1,18 +1,20 @@
 //! What is spelled of a box.
 ghost use Rattle.std.specs.Prelude.{◌≡◌, ◌<◌, ◌≤◌, ◌+◌, ◌^◌, ◌++◌, length, vec_len, IfOk, OnOk};
 ghost use Rattle.std.specs.List.{AllByRecursion};
-ghost use Rattle.cert_trim.specs.cert_bytes.declared.item.Item.TheVariants as item;
-ghost use Rattle.cert_trim.specs.cert_bytes.Certificates.{HasSpelling};
+ghost use Rattle.cert_bytes.specs.declared.item.Item.TheVariants as item;
+ghost use Rattle.cert_bytes.specs.Certificates.{HasSpelling};
+ghost use Rattle.cert_bytes.specs.Styles.{seen_behind};
+ghost use Rattle.cert_bytes.specs.Spelling.{spelled_behind};
 ghost use Rattle.cert_trim.specs.Used.{CiteEarlier};
-ghost use Rattle.cert_trim.specs.cert_bytes.Styles.{seen_behind};
-ghost use Rattle.cert_trim.specs.cert_bytes.Spelling.{spelled_behind};
-ghost use Rattle.box_trace.specs.Tables.{known_at};
-ghost use Rattle.box_trace.specs.tree_certificates.Trees.{AllSettled};
-ghost use Rattle.cert_writer.specs.Boxes.{refs_in, written_of};
 ghost use Rattle.cert_trim.specs.Behind.{section_of};
+ghost use Rattle.tree_certificates.specs.Trees.{AllSettled};
+ghost use Rattle.box_trace.specs.Tables.{known_at};
+ghost use Rattle.cert_writer.specs.Boxes.{refs_in, written_of};
 
-use box_trace::{Known, Universe};
-use cert_trim::{Item, Seen, StepRow, trim_behind, write_item2};
+use box_trace::Known;
+use rule_universe::Universe;
+use cert_bytes::{Item, Seen, StepRow, write_item2};
+use cert_trim::trim_behind;
 use goals::Goal;
 use std::alloc::{AllocError, Global};
 

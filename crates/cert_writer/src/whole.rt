@@ -1,6 +1,6 @@
 //! A script's certificate, written to a file.
 ghost use Rattle.std.specs.Prelude.{◌≤◌, IsErrOf, OnOk, OnErr};
-ghost use Rattle.answer_certificates.specs.script_checker.rewrite_hints.Marks.{AreMarks};
+ghost use Rattle.rewrite_hints.specs.Marks.{AreMarks};
 ghost use Rattle.whole_texts.specs.OnlyWrites.{OnlyWrites};
 ghost use Rattle.cert_writer.specs.Cases.{IsPlanned};
 ghost use Rattle.cert_writer.specs.Written.{IsProvedWith, OfProved, HoldsCertificate, HoldsFront};
@@ -10,12 +10,12 @@ use crate::cases::{write_cases, write_end};
 use crate::head::spell_head;
 use crate::laws::writing_goes_on;
 use crate::walk::WriteStop;
-use answer_certificates::{
-    Case, Script, script_has_room, scripts_have_roots, subjects_are_written, universes_are_small,
-};
-use box_trace::Universe;
+use settler::Case;
+use script_grammar::Script;
+use answer_certificates::{script_has_room, scripts_have_roots, subjects_are_written, universes_are_small};
+use rule_universe::Universe;
 use fx_edge::Folder;
-use goals::HintMark;
+use facts::HintMark;
 use std::alloc::Global;
 use whole_texts::append_all;
 

@@ -1,27 +1,27 @@
 -- What is answered to a script and a certificate, from what its check answers.
 use Rattle.std.specs.Prelude.{◌≡◌, length, Some, Err}
 use Rattle.std.proofs.Common.{◌∙◌, ap, subst, inl, inr}
-use Rattle.script_checker.specs.cert_checker.goals.fx_model.Expression.{Assignment}
-use Rattle.script_checker.specs.script_grammar.Spells.{View, Spells, GoalsHaveSpans}
-use Rattle.script_checker.specs.script_meets.Meets.{Meets}
-use Rattle.script_checker.specs.rewrite_hints.Marks.{AreMarks}
+use Rattle.fx_model.specs.Expression.{Assignment}
+use Rattle.script_grammar.specs.Spells.{View, Spells, GoalsHaveSpans}
+use Rattle.script_meets.specs.Meets.{Meets}
+use Rattle.script_meets.specs.Held.{AreHeld}
+use Rattle.rewrite_hints.specs.Marks.{AreMarks}
 use Rattle.cert_bytes.specs.declared.fault.CertFault.{CertFault}
 use Rattle.cert_bytes.specs.declared.style.Style.TheVariants.{First}
 use Rattle.cert_bytes.specs.Reading.{cursor}
 use Rattle.cert_bytes.specs.Pieces.{cursor_of}
 use Rattle.cert_bytes.specs.Readers.{Progress, fresh}
 use Rattle.cert_bytes.specs.ReadOut.{AreBytes}
-use Rattle.script_checker.specs.cert_checker.declared.fault.CheckFault.{CheckFault}
-use Rattle.script_checker.specs.cert_checker.declared.fault.CheckStop.{CheckStop}
-use Rattle.script_checker.specs.cert_checker.declared.fault.CheckStop.TheVariants.{Cert, Check}
-use Rattle.script_checker.specs.cert_checker.declared.lines.Lines.{Lines}
-use Rattle.script_checker.specs.cert_checker.Outcomes.{Outcome, accepted, unread, refused}
+use Rattle.cert_checker.specs.declared.fault.CheckFault.{CheckFault}
+use Rattle.cert_checker.specs.declared.fault.CheckStop.{CheckStop}
+use Rattle.cert_checker.specs.declared.fault.CheckStop.TheVariants.{Cert, Check}
+use Rattle.cert_checker.specs.declared.lines.Lines.{Lines}
+use Rattle.cert_checker.specs.Outcomes.{Outcome, accepted, unread, refused}
 use Rattle.script_checker.specs.Checking.{ComesFor, ShowsFor, ChecksFor, AreAcceptedFor}
-use Rattle.script_checker.specs.script_meets.Held.{AreHeld}
-use Rattle.script_texts.specs.report.Proved.{answer_text}
-use Rattle.script_texts.specs.report.Certificates.{cert_fault_line, check_fault_line}
 use Rattle.command_runs.specs.Runs.{Bytes, Told}
 use Rattle.command_runs.specs.declared.status.Status.TheVariants.{Answered, Certificate}
+use Rattle.report.specs.Proved.{answer_text}
+use Rattle.report.specs.Certificates.{cert_fault_line, check_fault_line}
 use Rattle.check_command.specs.Checked.{ComesWhereTold, CheckPrints}
 
 module _ (told : Told) (name : Bytes) (r : Progress) (begins : r ≡ fresh name) (s : View) where

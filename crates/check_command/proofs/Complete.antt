@@ -1,19 +1,19 @@
 -- A certificate that is accepted is answered.
 use Rattle.std.specs.Prelude.{◌≡◌, Some, Option, Result, Err}
 use Rattle.std.proofs.Common.{◌∙◌, ap, sym, subst}
-use Rattle.script_checker.specs.script_grammar.Spells.{View, Spells, SpellsOnce}
+use Rattle.script_grammar.specs.Spells.{View, Spells, SpellsOnce}
 use Rattle.cert_bytes.specs.declared.style.Style.TheVariants.{First}
 use Rattle.cert_bytes.specs.Reading.{cursor}
 use Rattle.cert_bytes.specs.Pieces.{cursor_of}
 use Rattle.cert_bytes.specs.Readers.{Progress, fresh}
 use Rattle.cert_bytes.specs.declared.fault.CertFault.{CertFault}
-use Rattle.script_checker.specs.cert_checker.declared.fault.CheckFault.{CheckFault}
-use Rattle.script_checker.specs.cert_checker.declared.fault.CheckStop.{CheckStop}
-use Rattle.script_checker.specs.cert_checker.declared.fault.CheckStop.TheVariants.{Cert, Check}
-use Rattle.script_checker.specs.cert_checker.declared.lines.Lines.{Lines}
-use Rattle.script_checker.specs.cert_checker.Contexts.{Context}
-use Rattle.script_checker.specs.cert_checker.Outcomes.{Outcome, accepted, SpelledAreAccepted}
-use Rattle.script_checker.specs.cert_checker.Checking.{IsAnswer}
+use Rattle.cert_checker.specs.declared.fault.CheckFault.{CheckFault}
+use Rattle.cert_checker.specs.declared.fault.CheckStop.{CheckStop}
+use Rattle.cert_checker.specs.declared.fault.CheckStop.TheVariants.{Cert, Check}
+use Rattle.cert_checker.specs.declared.lines.Lines.{Lines}
+use Rattle.cert_checker.specs.Contexts.{Context}
+use Rattle.cert_checker.specs.Outcomes.{Outcome, accepted, SpelledAreAccepted}
+use Rattle.cert_checker.specs.Checking.{IsAnswer}
 use Rattle.script_checker.specs.Checking.{ComesFor, AreAcceptedFor}
 use Rattle.whole_texts.specs.Texts.{IsText}
 use Rattle.command_runs.specs.Runs.{Bytes, Told}

@@ -1,11 +1,11 @@
 -- How a run of `check` ends.
 use Rattle.std.specs.Prelude.{⊤}
 use Rattle.std.proofs.Common.{◌≡◌, ◌≢◌, Option, Some, None, refl, sym, subst, inl, inr}
-use Rattle.script_checker.specs.script_grammar.Spells.{View, Spells}
+use Rattle.script_grammar.specs.Spells.{View, Spells}
+use Rattle.command_line.specs.Check.{AskedCheck}
 use Rattle.whole_texts.specs.Texts.{IsText}
 use Rattle.whole_texts.specs.declared.read.ReadStop.{ReadStop}
 use Rattle.whole_texts.specs.declared.read.ReadStop.TheVariants as stop
-use Rattle.command_line.specs.Check.{AskedCheck}
 use Rattle.command_runs.specs.Ends.{IsOnce, IsPutBy, IsStopPutBy, or_unread, put_comes, put_runs}
 use Rattle.command_runs.specs.Ends.{run_by, stop_comes, stop_runs, unread_kept, unread_once}
 use Rattle.command_runs.specs.Fates.{AreTold, IsKeptFile, IsTold, MayWrite, Runs, ending, Comes}

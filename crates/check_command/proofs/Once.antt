@@ -1,19 +1,19 @@
 -- One answer is defined for a text and a certificate.
 use Rattle.std.proofs.Common.{◌≡◌, inl, inr, Option, Some, refl, sym, ap, ◌∙◌, subst}
-use Rattle.script_checker.specs.script_judge.First.{FirstsAreUnique}
-use Rattle.script_checker.specs.script_grammar.Spells.{View, Spells, SpellsOnce, NeverBoth}
-use Rattle.script_checker.specs.rewrite_hints.Marks.{AreMarks, marks_are_one}
+use Rattle.script_judge.specs.First.{FirstsAreUnique}
+use Rattle.script_grammar.specs.Spells.{View, Spells, SpellsOnce, NeverBoth}
+use Rattle.rewrite_hints.specs.Marks.{AreMarks, marks_are_one}
 use Rattle.cert_bytes.specs.declared.style.Style.TheVariants.{First}
 use Rattle.cert_bytes.specs.Reading.{cursor}
-use Rattle.script_checker.specs.cert_checker.Contexts.{Context}
-use Rattle.script_checker.specs.cert_checker.Outcomes.{Outcome, accepted, unread, refused}
+use Rattle.cert_checker.specs.Contexts.{Context}
+use Rattle.cert_checker.specs.Outcomes.{Outcome, accepted, unread, refused}
 use Rattle.script_checker.specs.Checking.{ComesFor, ChecksAreOne}
-use Rattle.script_texts.specs.Texts.{refused_once}
-use Rattle.script_texts.specs.report.Proved.{answer_text}
-use Rattle.script_texts.specs.report.Certificates.{cert_fault_line, check_fault_line}
 use Rattle.command_runs.specs.Runs.{Bytes}
 use Rattle.command_runs.specs.declared.status.Status.TheVariants.{Answered, Certificate}
 use Rattle.command_runs.specs.declared.status.Status.TheVariants as status
+use Rattle.report.specs.Proved.{answer_text}
+use Rattle.report.specs.Certificates.{cert_fault_line, check_fault_line}
+use Rattle.script_texts.specs.Texts.{refused_once}
 use Rattle.check_command.specs.Checked.{IsChecked, IsFaulty}
 use Rattle.check_command.specs.Laws.{CheckAnswersAreOne}
 

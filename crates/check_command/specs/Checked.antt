@@ -1,26 +1,26 @@
 -- What `check` answers to a text and a certificate: a status and lines.
 use Rattle.std.specs.Prelude.{◌≡◌, ◌≤◌, ◌⊎◌, List, length, Option}
-use Rattle.script_checker.specs.cert_checker.goals.fx_model.Expression.{Assignment}
-use Rattle.script_checker.specs.cert_checker.facts.declared.hint.HintMark.{HintMark}
-use Rattle.script_checker.specs.cert_checker.goals.declared.line.Line.{Line}
-use Rattle.script_checker.specs.script_grammar.Spells.{View, Spells}
-use Rattle.script_checker.specs.script_meets.Meets.{Meets}
-use Rattle.script_checker.specs.rewrite_hints.Marks.{AreMarks}
+use Rattle.fx_model.specs.Expression.{Assignment}
+use Rattle.facts.specs.declared.hint.HintMark.{HintMark}
+use Rattle.goals.specs.declared.line.Line.{Line}
+use Rattle.script_grammar.specs.Spells.{View, Spells}
+use Rattle.script_meets.specs.Meets.{Meets}
+use Rattle.script_meets.specs.Held.{AreHeld}
+use Rattle.rewrite_hints.specs.Marks.{AreMarks}
 use Rattle.cert_bytes.specs.declared.fault.CertFault.{CertFault}
 use Rattle.cert_bytes.specs.declared.style.Style.TheVariants.{First}
 use Rattle.cert_bytes.specs.Reading.{cursor}
 use Rattle.cert_bytes.specs.ReadOut.{AreBytes}
-use Rattle.script_checker.specs.cert_checker.declared.fault.CheckFault.{CheckFault}
-use Rattle.script_checker.specs.cert_checker.Contexts.{Context}
-use Rattle.script_checker.specs.cert_checker.Outcomes.{Outcome, accepted, unread, refused}
+use Rattle.cert_checker.specs.declared.fault.CheckFault.{CheckFault}
+use Rattle.cert_checker.specs.Contexts.{Context}
+use Rattle.cert_checker.specs.Outcomes.{Outcome, accepted, unread, refused}
 use Rattle.script_checker.specs.Checking.{ComesFor, AreAcceptedFor}
-use Rattle.script_checker.specs.script_meets.Held.{AreHeld}
-use Rattle.script_texts.specs.report.Proved.{answer_text}
-use Rattle.script_texts.specs.report.Certificates.{cert_fault_line, check_fault_line}
 use Rattle.command_runs.specs.Runs.{Bytes}
 use Rattle.command_runs.specs.Fates.{WhereTold}
 use Rattle.command_runs.specs.declared.status.Status.{Status}
 use Rattle.command_runs.specs.declared.status.Status.TheVariants as status
+use Rattle.report.specs.Proved.{answer_text}
+use Rattle.report.specs.Certificates.{cert_fault_line, check_fault_line}
 use Rattle.script_texts.specs.Texts.{IsRefusedWith}
 
 -- This comes of the certificate's bytes for the script, where they are told.

@@ -1,8 +1,8 @@
 -- One answer is defined for a text and a certificate.
 use Rattle.std.specs.Prelude.{◌≡◌, Option, Some}
+use Rattle.script_grammar.specs.Spells.{View, Spells}
 use Rattle.command_runs.specs.Runs.{Bytes}
 use Rattle.command_runs.specs.declared.status.Status.{Status}
-use Rattle.script_checker.specs.script_grammar.Spells.{View, Spells}
 use Rattle.check_command.specs.Checked.{CheckPrints}
 
 -- the certificate's bytes are told wherever the text spells a script

@@ -1,17 +1,19 @@
 // The status and the lines for a text and a certificate.
 ghost use Rattle.std.specs.Prelude.{◌≡◌, ℕ, List, Some, IfOk, IsErrOf};
 ghost use Rattle.fx_edge.specs.OnlyReads.{OnlyReads};
-ghost use Rattle.script_checker.specs.script_grammar.Spells.{View, Spells};
-ghost use Rattle.script_texts.specs.report.Proved as spec;
+ghost use Rattle.script_grammar.specs.Spells.{View, Spells};
+ghost use Rattle.report.specs.Proved as spec;
 ghost use Rattle.check_command.specs.Checked.{CheckPrints, IsAcceptable};
 
 use cert_bytes::Reader;
 use command_runs::Status;
 use fx_edge::Folder;
-use script_checker::{
-    CheckStop, Lines, Script, bytes_are_accepted, check_script, parse, script_or_refusal,
-};
-use script_texts::{answer_text, cert_fault_line, check_fault_line, refused_line};
+use cert_checker::{CheckStop, Lines, bytes_are_accepted};
+use script_grammar::{Script, parse, script_or_refusal};
+use script_checker::check_script;
+use report::proved::answer_text;
+use report::certificates::{cert_fault_line, check_fault_line};
+use script_texts::refused_line;
 use std::alloc::{AllocError, Global};
 use whole_texts::ReadStop;
 

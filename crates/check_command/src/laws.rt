@@ -1,7 +1,9 @@
 // One answer is defined for a text and a certificate.
 ghost use Rattle.check_command.specs.Laws.{CheckAnswersAreOne};
 
-use script_checker::{checks_are_one, firsts_are_unique, script_or_refusal};
+use script_checker::checks_are_one;
+use script_judge::firsts_are_unique;
+use script_grammar::script_or_refusal;
 
 /// The law that a text and a certificate have one status and one text of lines, where the
 /// certificate's bytes are told or the text is no script. Nothing is done.

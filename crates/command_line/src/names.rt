@@ -1,6 +1,6 @@
 // Commands of two names.
-ghost use Rattle.std.specs.Prelude.{◌≡◌, ◌≢◌, map, string_bytes, true, Some, None};
-ghost use Rattle.std.specs.Prelude.{IfOk, IfErr, IfSome};
+ghost use Rattle.std.specs.Prelude.{◌≡◌, ◌≢◌, map, string_bytes, true, Some, None, IfOk, IfErr};
+ghost use Rattle.std.specs.Prelude.{IfSome};
 ghost use Rattle.std.specs.Option.{option_map};
 ghost use Rattle.clap.specs.Words.{app_of, found_of, first_value, is_simple_and_free};
 ghost use Rattle.command_line.specs.Names.{names_app, asked_names, names_from, names_of};

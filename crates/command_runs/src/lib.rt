@@ -6,4 +6,3 @@ mod status;
 
 pub use printing::{print, print_stop, read_fault_line};
 pub use status::Status;
-pub use whole_texts::ReadStop;

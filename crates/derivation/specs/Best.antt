@@ -1,15 +1,15 @@
 -- A whole round takes the best facts of one height to those of the next.
 use Rattle.std.specs.Prelude.{◌≡◌, ℕ, suc, List, [], ◌∷◌, Some, None, slice_get}
 use Rattle.std.proofs.Common.{sym, ◌∙◌, ap, subst, inl, inr}
-use Rattle.goals.specs.facts.declared.fact.Fact.{Fact}
-use Rattle.goals.specs.facts.declared.fact.Slot.{Slot}
-use Rattle.goals.specs.facts.declared.fact.Fact.TheVariants as fact
-use Rattle.goals.specs.facts.declared.fact.Slot.TheVariants as slot
-use Rattle.goals.specs.facts.Order.{slot_of}
-use Rattle.goals.specs.facts.Laws.{IsStronger-trans}
-use Rattle.goals.specs.facts.Promises.{EachStronger}
+use Rattle.facts.specs.declared.fact.Fact.{Fact}
+use Rattle.facts.specs.declared.fact.Slot.{Slot}
+use Rattle.facts.specs.declared.fact.Fact.TheVariants as fact
+use Rattle.facts.specs.declared.fact.Slot.TheVariants as slot
+use Rattle.facts.specs.Order.{slot_of}
+use Rattle.facts.specs.Laws.{IsStronger-trans}
+use Rattle.facts.specs.Promises.{EachStronger}
+use Rattle.facts.specs.declared.instance.Instance.{Instance}
 use Rattle.derivation.specs.Lists.{IsLawful}
-use Rattle.goals.specs.facts.declared.instance.Instance.{Instance}
 use Rattle.derivation.specs.Derivations.{Setting, Derives, DeriveEach, given, drawn, met, none}
 use Rattle.derivation.specs.Derivations.{next, At, Beats, IsBest, IsClosed}
 use Rattle.derivation.specs.Rounds.{IsProper, Reads, Made, old, concluded_by, meets, IsAhead}

@@ -2,14 +2,14 @@
 use Rattle.std.specs.Prelude.{◌≡◌, ◌<◌, ◌≤◌, ◌+◌, ◌-◌, ◌&&◌, ◌||◌, ℕ, zero, suc, not, Bool, true}
 use Rattle.std.specs.Prelude.{false, List, [], ◌∷◌, Option, Some, None, length, count_by}
 use Rattle.std.specs.Ordering.{int_eq}
-use Rattle.goals.specs.interval.declared.interval.Interval.{Interval}
-use Rattle.goals.specs.facts.declared.relative.RelativeError.{RelativeError}
-use Rattle.goals.specs.facts.declared.fact.Fact.{Fact}
-use Rattle.goals.specs.facts.declared.fact.Slot.{Slot}
-use Rattle.goals.specs.facts.declared.fact.Fact.TheVariants as fact
-use Rattle.goals.specs.facts.declared.fact.Slot.TheVariants as slot
-use Rattle.goals.specs.facts.Order.{is_same}
-use Rattle.goals.specs.facts.declared.instance.Instance.{Instance}
+use Rattle.interval.specs.declared.interval.Interval.{Interval}
+use Rattle.facts.specs.declared.relative.RelativeError.{RelativeError}
+use Rattle.facts.specs.declared.fact.Fact.{Fact}
+use Rattle.facts.specs.declared.fact.Slot.{Slot}
+use Rattle.facts.specs.declared.fact.Fact.TheVariants as fact
+use Rattle.facts.specs.declared.fact.Slot.TheVariants as slot
+use Rattle.facts.specs.Order.{is_same}
+use Rattle.facts.specs.declared.instance.Instance.{Instance}
 use Rattle.derivation.specs.Derivations.{Setting, At, IsBest}
 use Rattle.derivation.specs.Known.{Piece, GivenAt}
 use Rattle.derivation.specs.Rounds.{IsSame, IsBestFrom}

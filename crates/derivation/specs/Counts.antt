@@ -1,29 +1,29 @@
 -- Laws of the count of steps.
-use Rattle.std.specs.Prelude.{◌≡◌, ◌≢◌, ◌<◌, ◌≤◌, ◌+◌, ◌-◌, ◌&&◌, ℕ, zero, suc, not, Bool}
-use Rattle.std.specs.Prelude.{true, false, List, [], ◌∷◌, Option, Some, None, length, count_by}
-use Rattle.std.specs.Prelude.{cond, slice_get, Contains, refl}
+use Rattle.std.specs.Prelude.{◌≡◌, ◌≢◌, ◌<◌, ◌≤◌, ◌+◌, ◌-◌, ◌&&◌, ℕ, zero, suc, not, Bool, true}
+use Rattle.std.specs.Prelude.{false, List, [], ◌∷◌, Option, Some, None, length, count_by, cond}
+use Rattle.std.specs.Prelude.{slice_get, Contains, refl}
 use Rattle.std.specs.Ordering.{int_eq}
 use Rattle.std.proofs.Common.{sym, ap, subst, inl, inr, arith, get_or}
 use Rattle.std.proofs.lemmas.Int.{ints}
 use Rattle.std.proofs.lemmas.Bool.Decides.{Decides-int_eq}
 use Rattle.std.proofs.lemmas.List.Recursion.{is_count_by}
 use Rattle.std.proofs.lemmas.Bool.{and_parts, or_right, or_left}
-use Rattle.expr_dag.specs.fx_model.declared.ExprId.{ExprId}
-use Rattle.goals.specs.dyadic.Order.{le_bound}
-use Rattle.goals.specs.dyadic.Compared.{BoundLe_in}
-use Rattle.goals.specs.interval.declared.interval.Interval.{Interval}
-use Rattle.goals.specs.interval.Intervals.{range_of}
-use Rattle.goals.specs.facts.declared.relative.RelativeError.{RelativeError}
-use Rattle.goals.specs.facts.declared.place.FixPlace.{FixPlace}
-use Rattle.goals.specs.facts.declared.fact.Fact.{Fact}
-use Rattle.goals.specs.facts.declared.fact.Slot.{Slot}
-use Rattle.goals.specs.facts.declared.fact.Fact.TheVariants as fact
-use Rattle.goals.specs.facts.declared.fact.Slot.TheVariants as slot
-use Rattle.goals.specs.facts.CommonParts.{expr_same}
-use Rattle.goals.specs.facts.Order.{is_same, IsWithin, IsWithinError, IsStronger}
-use Rattle.goals.specs.facts.Laws.{IsStronger-refl, IsStronger-trans}
-use Rattle.goals.specs.facts.Meets.{IsStronger-antisymm}
-use Rattle.goals.specs.facts.declared.instance.Instance.{Instance}
+use Rattle.fx_model.specs.declared.ExprId.{ExprId}
+use Rattle.fx_model.specs.Grid.{le_bound}
+use Rattle.dyadic.specs.Compared.{BoundLe_in}
+use Rattle.interval.specs.declared.interval.Interval.{Interval}
+use Rattle.interval.specs.Intervals.{range_of}
+use Rattle.facts.specs.declared.relative.RelativeError.{RelativeError}
+use Rattle.facts.specs.declared.place.FixPlace.{FixPlace}
+use Rattle.facts.specs.declared.fact.Fact.{Fact}
+use Rattle.facts.specs.declared.fact.Slot.{Slot}
+use Rattle.facts.specs.declared.fact.Fact.TheVariants as fact
+use Rattle.facts.specs.declared.fact.Slot.TheVariants as slot
+use Rattle.facts.specs.CommonParts.{expr_same}
+use Rattle.facts.specs.Order.{is_same, IsWithin, IsWithinError, IsStronger}
+use Rattle.facts.specs.Laws.{IsStronger-refl, IsStronger-trans}
+use Rattle.facts.specs.Meets.{IsStronger-antisymm}
+use Rattle.facts.specs.declared.instance.Instance.{Instance}
 use Rattle.derivation.specs.Lists.{IsLawful}
 use Rattle.derivation.specs.Derivations.{Setting, Derives, At, Beats, IsBest, IsClosed}
 use Rattle.derivation.specs.Rounds.{IsProper, InTable}

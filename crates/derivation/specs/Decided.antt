@@ -1,14 +1,13 @@
 -- What a box comes to, decided by its best table.
 use Rattle.std.specs.Prelude.{◌&&◌, ℕ, zero, suc, Bool, true, false, List, [], ◌∷◌, Option, Some}
 use Rattle.std.specs.Prelude.{None, if◌then◌else◌}
-use Rattle.expr_dag.specs.fx_model.Grid.{Bound, At}
-use Rattle.goals.specs.dyadic.Order.{le_bound}
-use Rattle.goals.specs.interval.declared.interval.Interval.{Interval}
-use Rattle.goals.specs.interval.Intervals.{range_of}
-use Rattle.goals.specs.facts.declared.fact.Fact.{Fact}
-use Rattle.goals.specs.facts.declared.fact.Slot.{Slot}
-use Rattle.goals.specs.facts.declared.fact.Fact.TheVariants as fact
-use Rattle.goals.specs.facts.declared.fact.Slot.TheVariants as slot
+use Rattle.fx_model.specs.Grid.{Bound, At, le_bound}
+use Rattle.interval.specs.declared.interval.Interval.{Interval}
+use Rattle.interval.specs.Intervals.{range_of}
+use Rattle.facts.specs.declared.fact.Fact.{Fact}
+use Rattle.facts.specs.declared.fact.Slot.{Slot}
+use Rattle.facts.specs.declared.fact.Fact.TheVariants as fact
+use Rattle.facts.specs.declared.fact.Slot.TheVariants as slot
 use Rattle.goals.specs.declared.goal.Want.{Want}
 use Rattle.goals.specs.declared.goal.Want.TheVariants.{Ask, Inside}
 use Rattle.goals.specs.declared.goal.Goal.{Goal}

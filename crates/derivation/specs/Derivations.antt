@@ -1,12 +1,12 @@
 -- Derivations of facts, and the best facts of a height.
 use Rattle.std.specs.Prelude.{◌≡◌, ℕ, suc, List, [], ◌∷◌, Option, Some, None, slice_get}
-use Rattle.expr_dag.specs.fx_model.declared.Node.{Node}
-use Rattle.goals.specs.facts.declared.fact.Fact.{Fact}
-use Rattle.goals.specs.facts.declared.fact.Slot.{Slot}
-use Rattle.goals.specs.facts.declared.fact.Slot.TheVariants as slot
-use Rattle.goals.specs.facts.Order.{slot_of, IsStronger, meet_of}
+use Rattle.fx_model.specs.declared.Node.{Node}
+use Rattle.facts.specs.declared.fact.Fact.{Fact}
+use Rattle.facts.specs.declared.fact.Slot.{Slot}
+use Rattle.facts.specs.declared.fact.Slot.TheVariants as slot
+use Rattle.facts.specs.Order.{slot_of, IsStronger, meet_of}
+use Rattle.facts.specs.declared.instance.Instance.{Instance}
 use Rattle.derivation.specs.Lists.{RuleList, shrinking, no_multiple}
-use Rattle.goals.specs.facts.declared.instance.Instance.{Instance}
 
 -- What the derivations of a script use: the list of rules, the nodes, the hypotheses as facts, and
 -- the instances of rules.

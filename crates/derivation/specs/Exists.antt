@@ -3,17 +3,18 @@
 use Rattle.std.specs.Prelude.{◌≡◌, ◌≢◌, ◌⊎◌, ◌<◌, ◌≤◌, ◌+◌, ℕ, zero, suc, List, [], ◌∷◌, Option}
 use Rattle.std.specs.Prelude.{Some, None, slice_get, length, refl}
 use Rattle.std.proofs.Common.{sym, ◌∙◌, ap, inl, inr, arith}
-use Rattle.expr_dag.specs.fx_model.declared.Node.{Node}
-use Rattle.expr_dag.specs.fx_model.declared.Node.TheVariants as node
-use Rattle.goals.specs.interval.Results.{whole_interval}
-use Rattle.goals.specs.facts.declared.fact.Fact.{Fact}
-use Rattle.goals.specs.facts.declared.fact.Slot.{Slot}
-use Rattle.goals.specs.facts.declared.fact.Fact.TheVariants as fact
-use Rattle.goals.specs.facts.declared.fact.Slot.TheVariants as slot
-use Rattle.goals.specs.facts.Order.{slot_of, meet_of}
-use Rattle.goals.specs.facts.Laws.{meet_exists}
+use Rattle.fx_model.specs.declared.Node.{Node}
+use Rattle.fx_model.specs.declared.Node.TheVariants as node
+use Rattle.interval.specs.Results.{whole_interval}
+use Rattle.facts.specs.declared.fact.Fact.{Fact}
+use Rattle.facts.specs.declared.fact.Slot.{Slot}
+use Rattle.facts.specs.declared.fact.Fact.TheVariants as fact
+use Rattle.facts.specs.declared.fact.Slot.TheVariants as slot
+use Rattle.facts.specs.Order.{slot_of, meet_of}
+use Rattle.facts.specs.Laws.{meet_exists}
+use Rattle.facts.specs.declared.instance.Instance.{Instance}
+use Rattle.facts.specs.CommonParts.{at_option}
 use Rattle.derivation.specs.Lists.{IsLawful}
-use Rattle.goals.specs.facts.declared.instance.Instance.{Instance}
 use Rattle.derivation.specs.Derivations.{Setting, At, IsBest, IsClosed}
 use Rattle.derivation.specs.Known.{Piece, IsGiven, GivenAt, IsTableAt}
 use Rattle.derivation.specs.Rounds.{IsProper, conclusion, IsWritten, IsKept, Improves, IsAhead}
@@ -27,7 +28,6 @@ use Rattle.derivation.specs.Begun.{given_lines, known_given, IsGathered, FirstHy
 use Rattle.derivation.specs.Begun.{FirstLines, gather_blank, gather_less, gather_hypothesis}
 use Rattle.derivation.specs.Begun.{gather_line, lines_none, lines_skip, child_start, child_table}
 use Rattle.derivation.specs.Begun.{root_table}
-use Rattle.goals.specs.facts.CommonParts.{at_option}
 
 -- ---- a fact that comes to a table
 abbrev choose : {s t : Slot} → (s ≡ t) ⊎ (s ≢ t) → Option Fact → Option Fact → Option Fact

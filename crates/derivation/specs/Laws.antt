@@ -1,12 +1,12 @@
 -- What is promised of derivations.
 use Rattle.std.specs.Prelude.{◌≡◌, ℕ, List, Some, None, slice_get, Contains}
-use Rattle.expr_dag.specs.fx_model.Expression.{Assignment, IsOrdered}
-use Rattle.goals.specs.facts.declared.fact.Fact.{Fact}
-use Rattle.goals.specs.facts.declared.fact.Slot.TheVariants as slot
-use Rattle.goals.specs.facts.Holds.{Holds}
-use Rattle.derivation.specs.Lists.{IsLawful, IsSoundFor}
+use Rattle.fx_model.specs.Expression.{Assignment, IsOrdered}
+use Rattle.facts.specs.declared.fact.Fact.{Fact}
+use Rattle.facts.specs.declared.fact.Slot.TheVariants as slot
+use Rattle.facts.specs.Holds.{Holds}
 use Rattle.goals.specs.declared.goal.Goal.{Goal}
 use Rattle.goals.specs.Settles.{Settles}
+use Rattle.derivation.specs.Lists.{IsLawful, IsSoundFor}
 use Rattle.derivation.specs.Derivations.{Setting, At, IsClosed, IsBest}
 use Rattle.derivation.specs.Known.{Piece, GivenAt, Known, IsTableAt}
 use Rattle.derivation.specs.Settled.{State, settled, void, IsState}

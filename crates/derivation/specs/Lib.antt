@@ -1,8 +1,3 @@
--- What callers name of the crates below.
-pub use Rattle.expr_dag.specs as expr_dag
-pub use Rattle.goals.specs.facts as facts
-pub use Rattle.goals.specs as goals
-pub use Rattle.goals.specs.interval as interval
 pub mod Lists
 pub mod Derivations
 pub mod Known

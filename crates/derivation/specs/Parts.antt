@@ -2,19 +2,19 @@
 use Rattle.std.specs.Prelude.{◌≡◌, ◌≢◌, ◌⊎◌, List, [], ◌∷◌, Option, Some, None, refl}
 use Rattle.std.proofs.Common.{sym, ◌∙◌, ap, subst, inl, inr, rules}
 use Rattle.std.proofs.lemmas.Bool.Decides.{eqb_tells}
-use Rattle.expr_dag.specs.fx_model.declared.ExprId.{ExprId}
-use Rattle.goals.specs.facts.declared.fact.Fact.{Fact}
-use Rattle.goals.specs.facts.declared.fact.Slot.{Slot}
-use Rattle.goals.specs.facts.declared.fact.Fact.TheVariants as fact
-use Rattle.goals.specs.facts.declared.fact.Slot.TheVariants as slot
-use Rattle.goals.specs.facts.Order.{slot_of, IsStronger, meet_of}
-use Rattle.goals.specs.facts.Laws.{IsStronger-slot, IsStronger-trans, IsStronger-meet}
-use Rattle.goals.specs.facts.Meets.{meet-none}
+use Rattle.fx_model.specs.declared.ExprId.{ExprId}
+use Rattle.facts.specs.declared.fact.Fact.{Fact}
+use Rattle.facts.specs.declared.fact.Slot.{Slot}
+use Rattle.facts.specs.declared.fact.Fact.TheVariants as fact
+use Rattle.facts.specs.declared.fact.Slot.TheVariants as slot
+use Rattle.facts.specs.Order.{slot_of, IsStronger, meet_of}
+use Rattle.facts.specs.Laws.{IsStronger-slot, IsStronger-trans, IsStronger-meet}
+use Rattle.facts.specs.Meets.{meet-none}
+use Rattle.facts.specs.declared.instance.Instance.{Instance}
+use Rattle.facts.specs.CommonParts.{at_option}
 use Rattle.derivation.specs.Lists.{RuleList}
-use Rattle.goals.specs.facts.declared.instance.Instance.{Instance}
 use Rattle.derivation.specs.Derivations.{At, Beats}
 use Rattle.derivation.specs.Rounds.{IsProper, Reads, all_at, with_first, concluded, conclusion}
-use Rattle.goals.specs.facts.CommonParts.{at_option}
 
 pub some_same : {X : Type 0} (a b : X) (o : Option X) → o ≡ Some a → o ≡ Some b → a ≡ b
 some_same a b o e f = let h : Some a ≡ Some b = sym e ∙ f in cc

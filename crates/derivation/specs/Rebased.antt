@@ -2,22 +2,22 @@
 -- of.
 use Rattle.std.specs.Prelude.{◌≡◌, ◌⊎◌, ℕ, suc, List, [], ◌∷◌, Some, None, slice_get, refl}
 use Rattle.std.proofs.Common.{sym, ◌∙◌, ap, subst, inl, inr}
-use Rattle.goals.specs.facts.declared.fact.Fact.{Fact}
-use Rattle.goals.specs.facts.declared.fact.Slot.{Slot}
-use Rattle.goals.specs.facts.declared.fact.Fact.TheVariants as fact
-use Rattle.goals.specs.facts.declared.fact.Slot.TheVariants as slot
-use Rattle.goals.specs.facts.Order.{slot_of, IsStronger, meet_of}
-use Rattle.goals.specs.facts.Laws.{IsStronger-trans, IsStronger-meet, meet_exists}
-use Rattle.goals.specs.facts.Meets.{meet-none}
-use Rattle.goals.specs.facts.Promises.{EachStronger}
+use Rattle.facts.specs.declared.fact.Fact.{Fact}
+use Rattle.facts.specs.declared.fact.Slot.{Slot}
+use Rattle.facts.specs.declared.fact.Fact.TheVariants as fact
+use Rattle.facts.specs.declared.fact.Slot.TheVariants as slot
+use Rattle.facts.specs.Order.{slot_of, IsStronger, meet_of}
+use Rattle.facts.specs.Laws.{IsStronger-trans, IsStronger-meet, meet_exists}
+use Rattle.facts.specs.Meets.{meet-none}
+use Rattle.facts.specs.Promises.{EachStronger}
+use Rattle.facts.specs.declared.instance.Instance.{Instance}
+use Rattle.facts.specs.CommonParts.{at_option, void_cases}
 use Rattle.derivation.specs.Lists.{IsLawful}
-use Rattle.goals.specs.facts.declared.instance.Instance.{Instance}
 use Rattle.derivation.specs.Derivations.{Setting, Derives, DeriveEach, given, drawn, met, none}
 use Rattle.derivation.specs.Derivations.{next, At, Beats, IsBest, IsClosed}
 use Rattle.derivation.specs.Rounds.{IsProper, InTable, IsBestFrom}
 use Rattle.derivation.specs.Parts.{none_some, slot_cases, void_alone, stronger_slot, beats_weaker}
 use Rattle.derivation.specs.Best.{Derives-suc, best_proper}
-use Rattle.goals.specs.facts.CommonParts.{at_option, void_cases}
 
 mutual
   embed : {u : Setting} {G H : Fact → Type 0} {n : ℕ} {f : Fact}

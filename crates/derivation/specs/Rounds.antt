@@ -1,11 +1,11 @@
 -- What one round does to a table.
 use Rattle.std.specs.Prelude.{◌≡◌, ◌≢◌, ◌⊎◌, ℕ, List, [], ◌∷◌, Option, Some, None, slice_get}
-use Rattle.goals.specs.facts.declared.fact.Fact.{Fact}
-use Rattle.goals.specs.facts.declared.fact.Slot.{Slot}
-use Rattle.goals.specs.facts.declared.fact.Slot.TheVariants as slot
-use Rattle.goals.specs.facts.Order.{slot_of, IsStronger, meet_of}
+use Rattle.facts.specs.declared.fact.Fact.{Fact}
+use Rattle.facts.specs.declared.fact.Slot.{Slot}
+use Rattle.facts.specs.declared.fact.Slot.TheVariants as slot
+use Rattle.facts.specs.Order.{slot_of, IsStronger, meet_of}
+use Rattle.facts.specs.declared.instance.Instance.{Instance}
 use Rattle.derivation.specs.Lists.{RuleList}
-use Rattle.goals.specs.facts.declared.instance.Instance.{Instance}
 use Rattle.derivation.specs.Derivations.{Setting, At, Beats, IsBest}
 
 -- each fact stands on its slot

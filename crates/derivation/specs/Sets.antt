@@ -1,11 +1,11 @@
 -- What is known depends on which hypotheses and instances there are, and not on their order.
 use Rattle.std.specs.Prelude.{◌≡◌, ℕ, List, [], ◌∷◌, Some, slice_get, Contains}
 use Rattle.std.proofs.Common.{sym, ◌∙◌, ap, subst, inl, inr}
-use Rattle.goals.specs.facts.declared.fact.Fact.{Fact}
-use Rattle.goals.specs.facts.declared.fact.Slot.{Slot}
-use Rattle.goals.specs.facts.declared.instance.Instance.{Instance}
-use Rattle.derivation.specs.Lists.{RuleList}
+use Rattle.facts.specs.declared.fact.Fact.{Fact}
+use Rattle.facts.specs.declared.fact.Slot.{Slot}
+use Rattle.facts.specs.declared.instance.Instance.{Instance}
 use Rattle.goals.specs.declared.goal.Goal.{Goal}
+use Rattle.derivation.specs.Lists.{RuleList}
 use Rattle.derivation.specs.Derivations.{Setting, Derives, DeriveEach, given, drawn, met, none}
 use Rattle.derivation.specs.Derivations.{next}
 use Rattle.derivation.specs.Known.{Piece, IsLine, IsGiven, GivenAt, Known}

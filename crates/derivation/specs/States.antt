@@ -3,18 +3,18 @@ use Rattle.std.specs.Prelude.{◌≡◌, ◌↔◌, ◌&&◌, ◌<◌, ℕ, zero
 use Rattle.std.specs.Prelude.{Option, Some, None, slice_get, IsTrue, if◌then◌else◌, refl}
 use Rattle.std.proofs.Common.{sym, ◌∙◌, ap, subst, inl, inr, arith}
 use Rattle.std.proofs.lemmas.Bool.{cases_lt, and_parts, and_from}
-use Rattle.expr_dag.specs.fx_model.Fraction.{Fraction}
-use Rattle.expr_dag.specs.fx_model.Grid.{Bound, Below, At, Above}
-use Rattle.goals.specs.dyadic.Order.{le_bound}
-use Rattle.goals.specs.dyadic.Compared.{BoundLe_in, BoundLe_out}
-use Rattle.goals.specs.interval.declared.interval.Interval.{Interval}
-use Rattle.goals.specs.interval.Intervals.{range_of}
-use Rattle.goals.specs.facts.declared.fact.Fact.{Fact}
-use Rattle.goals.specs.facts.declared.fact.Slot.{Slot}
-use Rattle.goals.specs.facts.declared.fact.Fact.TheVariants as fact
-use Rattle.goals.specs.facts.declared.fact.Slot.TheVariants as slot
-use Rattle.goals.specs.facts.Order.{slot_of, IsStronger}
-use Rattle.goals.specs.facts.Meets.{IsStronger-antisymm}
+use Rattle.fx_model.specs.Fraction.{Fraction}
+use Rattle.fx_model.specs.Grid.{Bound, Below, At, Above, le_bound}
+use Rattle.dyadic.specs.Compared.{BoundLe_in, BoundLe_out}
+use Rattle.interval.specs.declared.interval.Interval.{Interval}
+use Rattle.interval.specs.Intervals.{range_of}
+use Rattle.facts.specs.declared.fact.Fact.{Fact}
+use Rattle.facts.specs.declared.fact.Slot.{Slot}
+use Rattle.facts.specs.declared.fact.Fact.TheVariants as fact
+use Rattle.facts.specs.declared.fact.Slot.TheVariants as slot
+use Rattle.facts.specs.Order.{slot_of, IsStronger}
+use Rattle.facts.specs.Meets.{IsStronger-antisymm}
+use Rattle.facts.specs.CommonParts.{at_option, void_is}
 use Rattle.goals.specs.Settles.{IsWanted, HasWanted, Settles}
 use Rattle.goals.specs.Stronger.{StrongerSettles}
 use Rattle.goals.specs.declared.goal.Want.{Want}
@@ -25,12 +25,10 @@ use Rattle.derivation.specs.Known.{Piece, GivenAt, Known, IsTableAt}
 use Rattle.derivation.specs.Settled.{IsSettled, State, settled, void, unsettled, IsFirstOpen}
 use Rattle.derivation.specs.Settled.{IsState}
 use Rattle.derivation.specs.Decided.{is_number, is_wanted, has_wanted, is_settled, one_later}
-use Rattle.derivation.specs.Decided.{first_open}
-use Rattle.derivation.specs.Decided.{state_by, state_in}
+use Rattle.derivation.specs.Decided.{first_open, state_by, state_in}
 use Rattle.derivation.specs.Rounds.{IsSame}
 use Rattle.derivation.specs.Parts.{none_some, some_same, not_void}
 use Rattle.derivation.specs.Best.{best_proper}
-use Rattle.goals.specs.facts.CommonParts.{at_option, void_is}
 
 -- ---- best tables agree
 best_below : (u : Setting) (G : Fact → Type 0) (h : ℕ) (at new : Slot → Option Fact)

@@ -1,4 +1,7 @@
 -- Rounding a value down that lies just above a whole number.
+use lib.Count.{count_leading_zeros}
+use lib.IntN.{neg_ℤ}
+use mir.Syntax.{w128}
 use Rattle.std.specs.Prelude.{◌<ℤ◌}
 use Rattle.std.proofs.Common.{◌≡◌, ◌⊎◌, ℕ, zero, suc, ℤ, pos, negsuc, ◌+ℤ◌, ◌*ℤ◌, ◌≤ℤ◌, ◌<◌, ◌≤◌}
 use Rattle.std.proofs.Common.{◌*◌, ◌+◌, ◌-◌, ◌/◌, ◌^◌, arith, ap, sym, subst, ◌∙◌, refl, inl, inr}
@@ -10,13 +13,9 @@ use Rattle.std.proofs.lemmas.Bool.{cases_lt}
 use Rattle.std.proofs.lemmas.Int.{ints, by_lt_z, to_z-of_z, unsigned_abs-mul, fits_signed_mul}
 use Rattle.std.proofs.lemmas.Int.{fits_signed_from_abs}
 use Rattle.std.proofs.lemmas.Nat.{div-add-mod', leading_top, mod_below, mul-le, pow_pos, pow-add}
-use lib.Count.{count_leading_zeros}
-use lib.IntN.{neg_ℤ}
-use mir.Syntax.{w128}
 use Rattle.fx_model.specs.Fraction.{Fraction, ◌+ℚ◌, ◌*ℚ◌, ◌≤ℚ◌, ◌<ℚ◌, neg_ℚ, neg-neg, neg-lt}
-use Rattle.fx_model.specs.Fraction.{le_refl, le_trans, lt_not, le_lt_trans, le_or_lt}
-use Rattle.fx_model.specs.Fraction.{add-le, add-lt}
-use Rattle.fx_model.specs.Fraction.{mul_comm, zero-mul}
+use Rattle.fx_model.specs.Fraction.{le_refl, le_trans, lt_not, le_lt_trans, le_or_lt, add-le}
+use Rattle.fx_model.specs.Fraction.{add-lt, mul_comm, zero-mul}
 use Rattle.fx_model.specs.Powers.{scaled, scaled-le, scaled-le_out, scaled-lt, scaled-lt_out}
 use Rattle.fx_model.specs.Powers.{scaled-shift, scaled-zero, scaled-add}
 use Rattle.fx_model.specs.Grid.{IsOnGrid, IsOnGrid-neg, IsDown, At, scaled-neg, scaled-mul}

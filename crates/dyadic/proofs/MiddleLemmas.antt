@@ -2,11 +2,11 @@
 use Rattle.std.proofs.Common.{◌≡◌, ℕ, ℤ, pos, negsuc, ◌+ℤ◌, ◌*ℤ◌, ◌+◌, ◌-◌, ◌<◌, Bool, true, false}
 use Rattle.std.proofs.Common.{arith, ap, sym, subst, ◌∙◌, inl, inr, ⊎_elim}
 use Rattle.std.proofs.lemmas.Int.{ints}
-use Rattle.fx_model.specs.Fraction.{Fraction, ◌+ℚ◌, ◌*ℚ◌, ◌≤ℚ◌, ◌<ℚ◌, inverse_ℚ, zero_ℚ}
-use Rattle.fx_model.specs.Fraction.{one_ℚ, one-mul, mul_comm, mul_assoc, mul-add, mul-inverse}
-use Rattle.fx_model.specs.Fraction.{mul-le, mul-le_cancel, mul-lt, add_comm}
-use Rattle.fx_model.specs.Fraction.{add-le, add-le_out, add-le-add, le_refl, le_trans}
-use Rattle.fx_model.specs.Fraction.{le_antisymm, lt_by, lt_not, lt_le, le_lt_trans, le_or_lt}
+use Rattle.fx_model.specs.Fraction.{Fraction, ◌+ℚ◌, ◌*ℚ◌, ◌≤ℚ◌, ◌<ℚ◌, inverse_ℚ, zero_ℚ, one_ℚ}
+use Rattle.fx_model.specs.Fraction.{one-mul, mul_comm, mul_assoc, mul-add, mul-inverse, mul-le}
+use Rattle.fx_model.specs.Fraction.{mul-le_cancel, mul-lt, add_comm, add-le, add-le_out, add-le-add}
+use Rattle.fx_model.specs.Fraction.{le_refl, le_trans, le_antisymm, lt_by, lt_not, lt_le}
+use Rattle.fx_model.specs.Fraction.{le_lt_trans, le_or_lt}
 use Rattle.fx_model.specs.Powers.{whole, two_to, scaled, two_to-add, two_to-pos, two_to-positive}
 use Rattle.fx_model.specs.Powers.{whole-add, whole-mul, whole-le, whole-lt, zero-whole, one-whole}
 use Rattle.fx_model.specs.Grid.{IsOnGrid, At, IsDown, IsUp, signed}

@@ -1,9 +1,9 @@
 -- Numbers in canonical form.
+use lib.IntN.{neg_ℤ}
 use Rattle.std.proofs.Common.{◌≡◌, ℕ, ℤ, pos, negsuc, ◌+ℤ◌, ◌≤ℤ◌, ◌<◌, ◌*◌, ◌+◌, ◌%◌, ◌^◌, arith}
 use Rattle.std.proofs.Common.{ap, sym, subst, ◌∙◌, Bool, true, false, inl, inr, ⊎_elim}
 use Rattle.std.specs.Int.RustNames.{unsigned_abs}
 use Rattle.std.proofs.lemmas.Int.{ints}
-use lib.IntN.{neg_ℤ}
 use Rattle.fx_model.specs.Fraction.{Fraction, neg_ℚ, neg-neg, le_refl}
 use Rattle.fx_model.specs.Powers.{scaled, scaled-shift, scaled-zero}
 use Rattle.fx_model.specs.Grid.{IsOnGrid, scaled-neg, Below, At, Above, IsDown, IsUp, IsDown-neg}

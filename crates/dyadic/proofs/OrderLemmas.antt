@@ -1,6 +1,6 @@
 -- How numbers compare, by their mantissas at one place.
+use borrow.Author.Differences.{product_is}
 use Rattle.std.specs.Prelude.{if◌then◌else◌}
-use Rattle.dyadic.specs.declared.number.End.{End}
 use Rattle.std.proofs.Common.{◌≡◌, ℕ, ℤ, pos, negsuc, ◌+ℤ◌, ◌*ℤ◌, ◌<ℤ◌, ◌≤ℤ◌, ◌<◌, ◌≤◌, ◌*◌, ◌+◌}
 use Rattle.std.proofs.Common.{◌^◌, min, Bool, true, false, arith, ap, sym, subst, ◌∙◌, refl, ⊎_elim}
 use Rattle.std.proofs.Common.{lit≤}
@@ -13,11 +13,11 @@ use Rattle.std.specs.declared.cmp.Ordering.{Ordering}
 use Rattle.std.specs.declared.cmp.Ordering.TheVariants.{Less, Equal, Greater}
 use Rattle.std.specs.Ordering.{int_cmp, is_eq, eq_by_cmp}
 use Rattle.std.specs.Bool.{Decides, one_answer}
-use borrow.Author.Differences.{product_is}
 use Rattle.fx_model.specs.Fraction.{Fraction, le_ℚ, ◌≤ℚ◌, ◌<ℚ◌, ◌*ℚ◌, le_refl, one_ℚ, neg_ℚ}
 use Rattle.fx_model.specs.Fraction.{mul_comm, one-mul}
-use Rattle.fx_model.specs.Powers.{whole, scaled, scaled-le, scaled-lt, scaled-shift}
-use Rattle.fx_model.specs.Powers.{scaled-lt_out, whole-neg, one-whole, two_to-pos}
+use Rattle.fx_model.specs.Powers.{whole, scaled, scaled-le, scaled-lt, scaled-shift, scaled-lt_out}
+use Rattle.fx_model.specs.Powers.{whole-neg, one-whole, two_to-pos}
+use Rattle.dyadic.specs.declared.number.End.{End}
 use Rattle.dyadic.specs.declared.number.Dyadic.{Dyadic}
 use Rattle.dyadic.specs.Values.{value_of}
 use Rattle.dyadic.specs.Compared.{value_cmp-equal}

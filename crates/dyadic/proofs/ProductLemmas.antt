@@ -1,14 +1,14 @@
 -- Sizes and signs of products and quotients.
+use mathlib.Core.Bool.{beq, xor}
 use Rattle.std.proofs.Common.{◌≡◌, ℕ, ℤ, pos, ◌+ℤ◌, ◌*◌, Bool, true, false, not, ap, sym, subst}
 use Rattle.std.proofs.Common.{◌∙◌, refl}
 use Rattle.std.specs.Int.RustNames.{int_lt, unsigned_abs}
-use mathlib.Core.Bool.{beq, xor}
 use Rattle.fx_model.specs.Fraction.{Fraction, ◌*ℚ◌}
 use Rattle.fx_model.specs.Powers.{whole, scaled}
 use Rattle.fx_model.specs.Grid.{signed, signed-mul, signed-size, scaled-mul}
+use Rattle.fx_model.specs.Cut.{Cuts}
 use Rattle.dyadic.specs.declared.number.Dyadic.{Dyadic}
 use Rattle.dyadic.specs.Values.{value_of}
-use Rattle.fx_model.specs.Cut.{Cuts}
 
 pub product_size : (a b : Dyadic) (s t : Bool) (digits : ℕ) (two : ℤ)
     → s ≡ int_lt a.mantissa (pos 0) → t ≡ int_lt b.mantissa (pos 0)

@@ -1,17 +1,17 @@
 -- Quotients of sizes and signs.
+use mathlib.Core.Bool.{beq, xor}
 use Rattle.std.proofs.Common.{◌≡◌, ℕ, ℤ, pos, ◌+ℤ◌, ◌<◌, Bool, true, false, not, arith, ap, sym}
 use Rattle.std.proofs.Common.{subst, ◌∙◌, refl, ⊎_elim}
 use Rattle.std.specs.Int.RustNames.{int_lt, unsigned_abs}
 use Rattle.std.proofs.lemmas.Int.{ints}
 use Rattle.std.proofs.lemmas.Bool.{cases_lt}
-use mathlib.Core.Bool.{beq, xor}
 use Rattle.fx_model.specs.Fraction.{Fraction, ◌*ℚ◌, ◌/ℚ◌, inverse_ℚ, zero_ℚ, one_ℚ, one-mul}
 use Rattle.fx_model.specs.Fraction.{mul_comm, mul_assoc, mul_cancel, mul-inverse}
 use Rattle.fx_model.specs.Powers.{whole, two_to, scaled, scaled-zero, two_to-add, two_to-positive}
 use Rattle.fx_model.specs.Grid.{signed, signed-mul, signed-size}
+use Rattle.fx_model.specs.Cut.{Cuts}
 use Rattle.dyadic.specs.declared.number.Dyadic.{Dyadic}
 use Rattle.dyadic.specs.Values.{value_of}
-use Rattle.fx_model.specs.Cut.{Cuts}
 
 -- p * (w * (x * y)) = x, where w * p is the inverse of y
 regrouped : (p w x y : Fraction) → (w *ℚ p) *ℚ y ≡ one_ℚ → p *ℚ (w *ℚ (x *ℚ y)) ≡ x

@@ -1,13 +1,13 @@
 -- Quotients of whole numbers of 64 bits.
+use lib.Count.{count_leading_zeros}
+use lib.IntN.{neg_ℤ}
 use Rattle.std.proofs.Common.{◌≡◌, ℕ, suc, ℤ, pos, negsuc, ◌+ℤ◌, ◌*ℤ◌, ◌≤ℤ◌, ◌<◌, ◌≤◌, ◌*◌, ◌+◌}
 use Rattle.std.proofs.Common.{◌-◌, ◌%◌, ◌^◌, Bool, true, false, nat_lt, arith, ap, sym, subst, ◌∙◌}
 use Rattle.std.proofs.Common.{refl, inl, inr, ⊎_elim}
-use lib.Count.{count_leading_zeros}
 use Rattle.std.proofs.Math.Nat.{mul-le-mul_right}
 use Rattle.std.proofs.lemmas.Nat.{leading_top, shl_whole, pow-add}
 use Rattle.std.proofs.lemmas.Bool.{cases_lt, ltb-true, ltb-false}
 use Rattle.std.proofs.lemmas.Int.{ints}
-use lib.IntN.{neg_ℤ}
 use Rattle.fx_model.specs.Fraction.{Fraction, ◌*ℚ◌, ◌≤ℚ◌, ◌<ℚ◌, neg_ℚ, zero_ℚ, inverse_ℚ, neg-neg}
 use Rattle.fx_model.specs.Fraction.{le_refl, lt_le, lt_not, mul_assoc, one-mul, mul-inverse, neg-lt}
 use Rattle.fx_model.specs.Powers.{whole, whole-mul, whole-lt, zero-whole, two_to-pos, scaled}

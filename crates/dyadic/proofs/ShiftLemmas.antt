@@ -1,4 +1,6 @@
 -- Shifts of signed numbers.
+use mir.Syntax.{w64, w128}
+use mir.Val.{to_z, of_z}
 use Rattle.std.proofs.Common.{◌≡◌, ℕ, ℤ, pos, negsuc, ◌*ℤ◌, ◌<◌, ◌≤◌, ◌*◌, ◌+◌, ◌/◌, ◌%◌, ◌^◌}
 use Rattle.std.proofs.Common.{arith, ap, sym, ◌∙◌, ⊎_elim, lit≤, lit<}
 use Rattle.std.specs.Int.Signed.{shr_z}
@@ -9,8 +11,6 @@ use Rattle.std.proofs.lemmas.Int.{ints, to_z-of_z, fits_signed_mul, fits_signed_
 use Rattle.std.proofs.lemmas.Int.{unsigned_abs-mul}
 use Rattle.std.proofs.Math.Nat.{pow-le-pow_right, mul-le-mul_left, mul-le-mul_right, div-le_self}
 use Rattle.std.proofs.Math.Nat.{mod-eq_of_lt}
-use mir.Syntax.{w64, w128}
-use mir.Val.{to_z, of_z}
 
 module _ (n n' p : ℤ) (k : ℕ) (e : n' ≡ n) (small : unsigned_abs n < 73786976294838206464)
     (f : p ≡ pos (2 ^ k)) (few : k ≤ 60) where

@@ -1,25 +1,22 @@
 -- Sums whose parts lie far apart.
-use Rattle.std.proofs.Common.{◌≡◌, ℕ, ℤ, pos, ◌+ℤ◌, ◌*ℤ◌, ◌*◌, ◌+◌, ◌-◌, ◌^◌, ◌<◌, ◌≤◌, Bool, true}
-use Rattle.std.proofs.Common.{false, nat_lt, arith, ap, sym, subst, ◌∙◌, refl}
-use Rattle.std.proofs.Common.{not}
-use Rattle.std.specs.Int.RustNames.{int_lt, unsigned_abs}
-use Rattle.std.proofs.lemmas.Int.{ints}
 use mathlib.Core.Bool.{beq}
 use lib.IntN.{neg_ℤ}
-use Rattle.std.proofs.Common.{suc, ◌%◌, ⊎_elim, lit≤}
+use lib.Dec.{lt→ltb, T}
+use Rattle.std.proofs.Common.{◌≡◌, ℕ, ℤ, pos, ◌+ℤ◌, ◌*ℤ◌, ◌*◌, ◌+◌, ◌-◌, ◌^◌, ◌<◌, ◌≤◌, Bool, true}
+use Rattle.std.proofs.Common.{false, nat_lt, arith, ap, sym, subst, ◌∙◌, refl, not, suc, ◌%◌}
+use Rattle.std.proofs.Common.{⊎_elim, lit≤}
+use Rattle.std.specs.Int.RustNames.{int_lt, unsigned_abs}
+use Rattle.std.proofs.lemmas.Int.{ints}
 use Rattle.std.proofs.Math.Nat.{pow-le-pow_right, mul-le-mul_left, mul-le-mul_right, mod-eq_of_lt}
 use Rattle.std.proofs.lemmas.Nat.{pow_pos, pow-add}
 use Rattle.std.proofs.lemmas.Bool.{cases_lt}
-use Rattle.dyadic.proofs.NumberLemmas.{same_cut}
-use lib.Dec.{lt→ltb, T}
-use Rattle.fx_model.specs.Fraction.{Fraction, ◌+ℚ◌, neg_ℚ, neg-neg, neg-add}
-use Rattle.fx_model.specs.Fraction.{zero-add}
-use Rattle.fx_model.specs.Powers.{whole, scaled, scaled-shift, scaled-zero}
-use Rattle.fx_model.specs.Powers.{scaled-add}
+use Rattle.fx_model.specs.Fraction.{Fraction, ◌+ℚ◌, neg_ℚ, neg-neg, neg-add, zero-add}
+use Rattle.fx_model.specs.Powers.{whole, scaled, scaled-shift, scaled-zero, scaled-add}
 use Rattle.fx_model.specs.Grid.{signed, signed-size, scaled-neg}
+use Rattle.fx_model.specs.Cut.{Cuts}
+use Rattle.dyadic.proofs.NumberLemmas.{same_cut}
 use Rattle.dyadic.specs.declared.number.Dyadic.{Dyadic}
 use Rattle.dyadic.specs.Values.{value_of}
-use Rattle.fx_model.specs.Cut.{Cuts}
 use Rattle.dyadic.proofs.CutLemmas.{narrow_cuts}
 
 is_true : (b : Bool) → T b → b ≡ true

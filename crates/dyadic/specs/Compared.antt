@@ -5,13 +5,13 @@ use Rattle.std.specs.declared.cmp.Ordering.{Ordering}
 use Rattle.std.specs.declared.cmp.Ordering.TheVariants.{Less, Equal, Greater}
 use Rattle.std.specs.Ordering.{is_le, is_lt}
 use Rattle.fx_model.specs.Fraction.{le_ℚ, ◌≤ℚ◌, ◌<ℚ◌, le_antisymm, lt_le}
-use Rattle.fx_model.specs.Grid.{Bound, Below, At, Above}
+use Rattle.fx_model.specs.Grid.{Bound, Below, At, Above, le_bound}
 use Rattle.fx_model.specs.Enclosure.{BoundLe}
 use Rattle.dyadic.specs.declared.number.Dyadic.{Dyadic}
 use Rattle.dyadic.specs.declared.number.End.{End}
 use Rattle.dyadic.specs.Values.{value_of}
 use Rattle.dyadic.specs.Ends.{bound_of}
-use Rattle.dyadic.specs.Order.{value_cmp, le_bound, end_cmp, less_out, equal_out}
+use Rattle.dyadic.specs.Order.{value_cmp, end_cmp, less_out, equal_out}
 
 pub BoundLe_in : (b c : Bound) → le_bound b c ≡ true → BoundLe b c
 BoundLe_in Below c e = tt

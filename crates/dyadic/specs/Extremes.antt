@@ -2,11 +2,11 @@
 use Rattle.std.specs.Prelude.{◌≡◌, ◌⊎◌, Bool, true, false, if◌then◌else◌, refl}
 use Rattle.std.proofs.Common.{⊎_elim, sym, subst, ap}
 use Rattle.fx_model.specs.Fraction.{le_refl, le_antisymm}
-use Rattle.fx_model.specs.Grid.{Bound, Below, At, Above}
+use Rattle.fx_model.specs.Grid.{Bound, Below, At, Above, le_bound}
 use Rattle.fx_model.specs.Enclosure.{BoundLe}
 use Rattle.dyadic.specs.declared.number.End.{End}
 use Rattle.dyadic.specs.Ends.{bound_of, same_bound}
-use Rattle.dyadic.specs.Order.{le_bound, bound_total, bound_trans}
+use Rattle.dyadic.specs.Order.{bound_total, bound_trans}
 use Rattle.dyadic.specs.Compared.{BoundLe_in, BoundLe_out}
 
 -- the greater and the lesser of two ends

@@ -1,5 +1,3 @@
--- What callers name of the crates below.
-pub use Rattle.fx_model.specs as fx_model
 pub mod Canonical
 pub mod Compared
 pub mod Cut

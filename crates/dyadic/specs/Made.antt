@@ -1,4 +1,5 @@
 -- Each fraction of the grid has a `Dyadic`, and each bound of the grid an `End`.
+use lib.IntN.{neg_ℤ}
 use Rattle.std.specs.Prelude.{◌≡◌, ℕ, ℤ, pos, negsuc, ◌+ℤ◌, ◌*ℤ◌, ◌≤◌, ◌<◌, ◌*◌, ◌+◌, ◌%◌, ◌/◌, ◌^◌}
 use Rattle.std.specs.Prelude.{◌==◌, Bool, true, false, if◌then◌else◌, refl}
 use Rattle.std.specs.Int.RustNames.{unsigned_abs}
@@ -15,7 +16,6 @@ use Rattle.dyadic.specs.declared.number.Dyadic.{Dyadic}
 use Rattle.dyadic.specs.declared.number.End.{End}
 use Rattle.dyadic.specs.declared.number.End.TheVariants.{Low, At, High}
 use Rattle.dyadic.specs.Values.{value_of, zero_number, on_grid}
-use lib.IntN.{neg_ℤ}
 use Rattle.dyadic.specs.Ends.{bound_of}
 
 -- n is odd * 2^k

@@ -1,10 +1,10 @@
 -- Numbers m * 2^e with an odd m: there is one form of each.
+use borrow.Author.Differences.{up, down}
 use Rattle.std.specs.Prelude.{◌≡◌, ℕ, ℤ, pos, ◌+ℤ◌, ◌*ℤ◌, ◌≤ℤ◌, ◌*◌, ◌+◌, ◌-◌, ◌%◌, ◌^◌}
 use Rattle.std.specs.Int.RustNames.{unsigned_abs}
 use Rattle.std.proofs.Common.{arith, ap, sym, ◌∙◌}
 use Rattle.std.proofs.lemmas.Int.{ints, by_lt_z, unsigned_abs-mul}
 use Rattle.std.proofs.lemmas.Nat.{pow-add}
-use borrow.Author.Differences.{up, down}
 use Rattle.fx_model.specs.Powers.{scaled, scaled-shift, scaled-same}
 use Rattle.fx_model.specs.Cut.Gaps.{gap}
 

@@ -6,8 +6,7 @@ use Rattle.std.specs.declared.cmp.Ordering.TheVariants.{Less, Equal, Greater}
 use Rattle.std.specs.Ordering.{ordering_reverse}
 use Rattle.std.specs.Cmp.{IsTotalOrder, both_ways, on_total}
 use Rattle.fx_model.specs.Fraction.{Fraction, le_ℚ, le_total, le_trans}
-use Rattle.fx_model.specs.Grid.{Bound, Below, At, Above}
-pub use Rattle.fx_model.specs.Grid.{le_bound}
+use Rattle.fx_model.specs.Grid.{Bound, Below, At, Above, le_bound}
 use Rattle.dyadic.specs.declared.number.Dyadic.{Dyadic}
 use Rattle.dyadic.specs.declared.number.End.{End}
 use Rattle.dyadic.specs.Values.{value_of}

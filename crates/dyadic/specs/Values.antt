@@ -1,6 +1,6 @@
 -- What a `Dyadic` stands for. A number of the grid has one `Dyadic`.
-use Rattle.std.specs.Prelude.{◌≡◌, pos}
 use mathlib.Core.HLevel.{is_prop→PathP}
+use Rattle.std.specs.Prelude.{◌≡◌, pos}
 use Rattle.fx_model.specs.Fraction.{Fraction}
 use Rattle.fx_model.specs.Powers.{scaled}
 use Rattle.fx_model.specs.Grid.{IsOnGrid}

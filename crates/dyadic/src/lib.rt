@@ -1,8 +1,6 @@
 //! Numbers m * 2^e with exact comparison and outward rounding.
 #![tactic(auto)]
 
-// What callers name of the crates below.
-pub use fx_model::{Direction, ExprId, Literal, Rounding};
 
 mod cut;
 mod floor;

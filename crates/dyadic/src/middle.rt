@@ -1,6 +1,5 @@
 // Numbers between two others.
-ghost use Rattle.std.specs.Prelude.{◌≡◌, ◌≤◌, ◌<◌, ◌-◌, ◌*◌, ◌*ℤ◌, ◌≤ℤ◌, pos, negsuc};
-ghost use Rattle.std.specs.Prelude.{MatchOption};
+ghost use Rattle.std.specs.Prelude.{◌≡◌, ◌≤◌, ◌<◌, ◌-◌, ◌*◌, ◌*ℤ◌, ◌≤ℤ◌, pos, negsuc, MatchOption};
 ghost use Rattle.std.specs.Int.RustNames.{unsigned_abs};
 ghost use Rattle.fx_model.specs.Fraction.{Fraction, ◌≤ℚ◌};
 ghost use Rattle.fx_model.specs.Grid.{IsDown, IsUp};

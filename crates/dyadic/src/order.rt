@@ -9,9 +9,10 @@ ghost use Rattle.std.specs.Ordering.{as_partial_cmp, eq_by_cmp, int_cmp, on};
 ghost use Rattle.fx_model.specs.Fraction.{◌≤ℚ◌, ◌<ℚ◌, zero_ℚ, one_ℚ, neg_ℚ};
 ghost use Rattle.fx_model.specs.Grid as grid;
 ghost use Rattle.fx_model.specs.Enclosure.{BoundLe};
+ghost use Rattle.fx_model.specs.Grid.{le_bound};
 ghost use Rattle.dyadic.specs.Ends.{bound_of};
 ghost use Rattle.dyadic.specs.Extremes.{greater_end, lesser_end};
-ghost use Rattle.dyadic.specs.Order.{value_cmp, value_cmp_total, end_cmp, end_cmp_total, le_bound};
+ghost use Rattle.dyadic.specs.Order.{value_cmp, value_cmp_total, end_cmp, end_cmp_total};
 ghost use Rattle.dyadic.specs.Values.{value_of};
 
 use crate::number::{Dyadic, End};

@@ -1,7 +1,7 @@
 // Quotients of numbers of 64 bits. A division of 128 bits takes the processor 90 cycles; a few
 // multiplications guess what it gives, nearly always rightly, and the guess is checked.
-ghost use Rattle.std.specs.Prelude.{◌≡◌, ◌≤◌, ◌<◌, ◌*◌, ◌+◌, ◌^◌, pos, true, false};
 ghost use lib.IntN.{neg_ℤ};
+ghost use Rattle.std.specs.Prelude.{◌≡◌, ◌≤◌, ◌<◌, ◌*◌, ◌+◌, ◌^◌, pos, true, false};
 
 /// A number without the zeros before its first digit: number * 2^places.
 #[derive(Clone, Copy)]

@@ -1,4 +1,7 @@
 -- Products in lowest terms: each numerator without its common divisor with the other denominator.
+use mathlib.Core.Quot.{sound}
+use lib.IntN.{neg_ℤ}
+use borrow.Author.Differences.{up, down, neg_is, product_is, same_in}
 use Rattle.std.specs.Prelude.{◌≡◌, ℕ, ℤ, pos, negsuc, int_lt, ◌*ℤ◌, ◌≤ℤ◌, ◌+◌, ◌≤◌, ◌*◌, ◌/◌, ◌<◌}
 use Rattle.std.specs.Prelude.{Bool, true, false, refl}
 use Rattle.std.specs.Int.{IsGcd, ◌∣◌}
@@ -7,9 +10,6 @@ use Rattle.std.proofs.Common.{arith, sym, ap, ◌∙◌, subst, suc, zero}
 use Rattle.std.proofs.lemmas.Int.{ints, unsigned_abs-mul}
 use Rattle.std.proofs.lemmas.Nat.Gcd.{dvd_trans, IsGcd-swap}
 use Rattle.std.proofs.Math.Nat.{div-mul_cancel, dvd-mul_right, mul-pos, one-dvd, mul-le-mul_right}
-use mathlib.Core.Quot.{sound}
-use lib.IntN.{neg_ℤ}
-use borrow.Author.Differences.{up, down, neg_is, product_is, same_in}
 use Rattle.fx_model.specs.Fraction.{Same, Fraction, of_ratio, ◌*ℚ◌, inverse_ℚ, neg_ℚ, zero_ℚ, one_ℚ}
 use Rattle.fx_model.specs.Fraction.{mul_ratio, mul-mk, mul_comm, mul_assoc, one-mul, mul-inverse}
 use Rattle.fx_model.specs.Fraction.{neg-mul, zero-mul, le_refl, ◌≤ℚ◌, abs_ℚ, abs-from, abs-below}

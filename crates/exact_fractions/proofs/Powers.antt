@@ -1,4 +1,7 @@
 -- Products with powers of two, in lowest terms.
+use mathlib.Core.Quot.{sound}
+use lib.IntN.{neg_ℤ}
+use borrow.Author.Differences.{neg_is, product_is, same_in}
 use Rattle.std.specs.Prelude.{◌≡◌, ◌≢◌, ◌⊎◌, ℕ, ℤ, pos, negsuc, int_lt, nat_lt, ◌*ℤ◌, ◌+◌, ◌≤◌, ◌*◌}
 use Rattle.std.specs.Prelude.{◌/◌, ◌%◌, ◌<◌, ◌^◌, ◌&&◌, Bool, true, false, refl}
 use Rattle.std.specs.Int.{◌∣◌}
@@ -11,9 +14,6 @@ use Rattle.std.proofs.lemmas.Bool.{le-ltb, lt-ltb, ltb-true}
 use Rattle.std.proofs.Math.Nat.{dvd-mul_right, mul-pos, one-dvd, mul-le-mul_right, mul-le-mul_left}
 use Rattle.std.proofs.Math.Nat.{eq-zero_of_zero-dvd, le_of_dvd}
 use Rattle.std.proofs.Math.Pow.{pow_mono}
-use mathlib.Core.Quot.{sound}
-use lib.IntN.{neg_ℤ}
-use borrow.Author.Differences.{neg_is, product_is, same_in}
 use Rattle.fx_model.specs.Fraction.{Same, Fraction, ◌*ℚ◌, zero_ℚ, one_ℚ}
 use Rattle.fx_model.specs.Powers.{whole, whole-mk, two_to, two_to_ratio, two_to-mk, two_to-pos}
 use Rattle.fx_model.specs.Powers.{zero-whole, one-whole}

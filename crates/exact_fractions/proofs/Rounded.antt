@@ -1,8 +1,8 @@
 -- What a rounding answers, from what its steps do.
+use lib.IntN.{neg_ℤ}
 use Rattle.std.specs.Prelude.{◌≡◌, ℤ, List, [], ◌∷◌, ◌++◌, ◌&&◌, Bool, true, false, Option, Some}
 use Rattle.std.specs.Prelude.{None, refl}
 use Rattle.std.proofs.Common.{sym, ap, ◌∙◌, subst}
-use lib.IntN.{neg_ℤ}
 use Rattle.fx_model.specs.Fraction.{Fraction, ◌*ℚ◌}
 use Rattle.fx_model.specs.Powers.{whole, two_to}
 use Rattle.fx_model.specs.Rounded.{rounded, whole_for}

@@ -1,4 +1,6 @@
 -- The whole numbers next to a fraction, from its whole part and what is left of it.
+use lib.IntN.{neg_ℤ}
+use borrow.Author.Differences.{up, down, sum_is_lem, product_is, neg_is}
 use Rattle.std.specs.Prelude.{◌≡◌, ℕ, ℤ, pos, negsuc, int_lt, ◌+ℤ◌, ◌*ℤ◌, ◌≤ℤ◌, ◌<ℤ◌, ◌+◌, ◌-◌, ◌*◌}
 use Rattle.std.specs.Prelude.{◌/◌, ◌%◌, ◌^◌, ◌<◌, ◌≤◌, nat_lt, nat_le, Bool, true, false}
 use Rattle.std.specs.Prelude.{if◌then◌else◌, refl}
@@ -8,15 +10,13 @@ use Rattle.std.proofs.lemmas.Int.{ints}
 use Rattle.std.proofs.lemmas.Nat.{div-add-mod', mod_below}
 use Rattle.std.proofs.lemmas.Bool.{ltb-true, ltb-false, leb-true, leb-false}
 use Rattle.std.proofs.Math.Nat.{mul-le-mul_left}
-use lib.IntN.{neg_ℤ}
-use borrow.Author.Differences.{up, down, sum_is_lem, product_is, neg_is}
 use Rattle.fx_model.specs.Fraction.{◌+ℚ◌, ◌≤ℚ◌, neg_ℚ, lt_by}
 use Rattle.fx_model.specs.Powers.{whole, floor_unique}
 use Rattle.fx_model.specs.Rounded.{floor, ceiling, near_low, near_high, half, is_even}
-use Rattle.rounding.specs.Shifts.{near_low-neg}
 use Rattle.fx_model.specs.declared.Direction.{Direction}
 use Rattle.fx_model.specs.declared.Direction.TheVariants.{Zr, Aw, Dn, Up, Od, Ne, No, Nz, Na, Nd}
 use Rattle.fx_model.specs.declared.Direction.TheVariants.{Nu}
+use Rattle.rounding.specs.Shifts.{near_low-neg}
 use Rattle.rounding.specs.declared.neighbours.Neighbours.{Neighbours}
 use Rattle.rounding.specs.Chosen.{AreNeighbours, chosen, is_from_zero}
 use Rattle.exact_fractions.specs.declared.roundings.Sizes.{Sizes}

@@ -1,7 +1,7 @@
 -- Literals as fractions over a power of ten.
+use lib.IntN.{neg_ℤ}
 use Rattle.std.specs.Prelude.{◌≡◌, ℕ, ℤ, pos, ◌<◌, Bool, true, false, Option, refl}
 use Rattle.std.proofs.Common.{sym, ap, ◌∙◌, subst}
-use lib.IntN.{neg_ℤ}
 use Rattle.fx_model.specs.Fraction.{Fraction, ◌*ℚ◌, inverse_ℚ, mul_comm, mul_assoc, mul-inverse}
 use Rattle.fx_model.specs.Fraction.{mul-one}
 use Rattle.fx_model.specs.Powers.{whole, two_to, scaled}

@@ -1,4 +1,6 @@
 -- Each fraction is its numerator over its denominator, and a fraction in lowest terms has these.
+use mathlib.Core.Quot.{sound}
+use borrow.Author.Differences.{up, down, neg_is}
 use Rattle.std.specs.Prelude.{◌≡◌, ℕ, ℤ, pos, negsuc, ◌+◌, ◌-◌, ◌*◌, ◌/◌, ◌^◌, ◌<◌, ◌≤◌, nat_lt}
 use Rattle.std.specs.Prelude.{Bool, true, false, refl}
 use Rattle.std.specs.Int.{◌∣◌}
@@ -8,8 +10,6 @@ use Rattle.std.proofs.Common.{arith, sym, ap, ◌∙◌, subst, zero, suc}
 use Rattle.std.proofs.Math.Nat.{ℕ_set, div-mul_cancel, one-dvd, div-le_self}
 use Rattle.std.proofs.lemmas.Bool.{ltb-true, ltb-false, le-ltb, lt-ltb}
 use Rattle.std.specs.Coded.{le_prop}
-use mathlib.Core.Quot.{sound}
-use borrow.Author.Differences.{up, down, neg_is}
 use Rattle.fx_model.specs.Fraction.{Ratio, Same, Fraction, of_ratio, by_ratio, Fraction-set}
 use Rattle.fx_model.specs.Fraction.{mul_ratio, mul-mk, inverse_ratio, inverse-mk, ◌*ℚ◌, ◌/ℚ◌}
 use Rattle.fx_model.specs.Fraction.{inverse_ℚ}

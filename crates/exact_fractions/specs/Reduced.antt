@@ -1,4 +1,6 @@
 -- Fractions in lowest terms: the numerator and the denominator of a fraction.
+use mathlib.Core.Quot.{lift}
+use lib.IntN.{neg_ℤ, ℤ_set}
 use Rattle.std.specs.Prelude.{◌≡◌, ℕ, ℤ, pos, ◌+◌, ◌-◌, ◌*◌, ◌/◌, ◌^◌, ◌<◌, nat_lt, Bool, true}
 use Rattle.std.specs.Prelude.{false, if◌then◌else◌, refl}
 use Rattle.std.specs.Int.{◌∣◌}
@@ -7,8 +9,6 @@ use Rattle.std.proofs.Math.Nat.{ℕ_set, mul-pos, dvd-mul_left, div-mul_cancel, 
 use Rattle.std.proofs.lemmas.Bool.{cases_lt, ltb-true, ltb-false}
 use Rattle.std.proofs.lemmas.Nat.Gcd.{dvd_antisymm}
 use Rattle.std.specs.Coded.{le_prop}
-use mathlib.Core.Quot.{lift}
-use lib.IntN.{neg_ℤ, ℤ_set}
 use Rattle.std.specs.Int.RustNames.{unsigned_abs, int_lt}
 use Rattle.fx_model.specs.Powers.{whole}
 use Rattle.fx_model.specs.Fraction.{Ratio, Same, Fraction, ◌/ℚ◌, of_ratio}

@@ -1,7 +1,7 @@
 -- The numbers that an operation takes, and which of them are too wide.
+use lib.IntN.{neg_ℤ}
 use Rattle.std.specs.Prelude.{ℕ, ℤ, pos, ◌+ℤ◌, ◌*ℤ◌, ◌*◌, ◌/◌, List, [], ◌∷◌, ◌++◌, Bool}
 use Rattle.std.specs.List.{list_all}
-use lib.IntN.{neg_ℤ}
 use Rattle.fx_model.specs.declared.Direction.{Direction}
 use Rattle.fx_model.specs.Fraction.{Fraction, ◌*ℚ◌, neg_ℚ}
 use Rattle.fx_model.specs.Powers.{two_to}

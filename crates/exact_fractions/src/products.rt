@@ -1,8 +1,8 @@
 //! Products and negatives.
 
+ghost use lib.IntN.{neg_ℤ};
 ghost use Rattle.std.specs.Prelude.{◌≡◌, ◌≢◌, ◌↔◌, ◌<◌, ◌^◌, pos, int_lt, true, IsTrue};
 ghost use Rattle.std.specs.Int.RustNames.{unsigned_abs};
-ghost use lib.IntN.{neg_ℤ};
 ghost use Rattle.fx_model.specs.Fraction.{◌*ℚ◌, ◌-ℚ◌, ◌/ℚ◌, neg_ℚ, abs_ℚ, inverse_ℚ};
 ghost use Rattle.exact_fractions.specs.Divisors.{gcd};
 ghost use Rattle.exact_fractions.specs.Exact.{value_of, Gives};

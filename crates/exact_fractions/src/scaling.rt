@@ -1,8 +1,8 @@
 //! Products with powers of two, and whole numbers.
 
+ghost use lib.IntN.{neg_ℤ};
 ghost use Rattle.std.specs.Prelude.{◌≡◌, ◌<◌, ◌*◌, ◌^◌, ◌*ℤ◌, pos};
 ghost use Rattle.std.specs.Int.RustNames.{unsigned_abs};
-ghost use lib.IntN.{neg_ℤ};
 ghost use Rattle.fx_model.specs.Fraction.{◌*ℚ◌, zero_ℚ, one_ℚ};
 ghost use Rattle.fx_model.specs.Powers.{two_to, whole};
 ghost use Rattle.exact_fractions.specs.Exact.{value_of, Gives};

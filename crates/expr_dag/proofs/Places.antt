@@ -11,9 +11,9 @@ use Rattle.std.proofs.lemmas.List.Sums.{passes_at_first, fails_before_first, pre
 use Rattle.std.proofs.lemmas.List.Quantifiers.{position-Some}
 use Rattle.std.proofs.lemmas.List.Folds.{list_any_at, list_any_none}
 use Rattle.indexmap.specs.IndexSet.{insert_key}
-use Rattle.literal.specs.fx_model.declared.ExprId.{ExprId}
-use Rattle.literal.specs.fx_model.declared.Node.{Node}
-use Rattle.literal.specs.fx_model.Expression.{Assignment, IsOrdered, value}
+use Rattle.fx_model.specs.declared.ExprId.{ExprId}
+use Rattle.fx_model.specs.declared.Node.{Node}
+use Rattle.fx_model.specs.Expression.{Assignment, IsOrdered, value}
 use Rattle.expr_dag.specs.Nodes.{same_node, IsLawful, IsAt, IsAbsent, IsShared, IsFound, IsLast}
 use Rattle.expr_dag.specs.Nodes.{IsPlaced, IsKept, place_of, placed, with_node, numbered}
 use Rattle.expr_dag.specs.Same.{same, itself}

@@ -1,13 +1,12 @@
 -- The values of nodes stay where more nodes follow.
-use Rattle.std.proofs.Common.{◌≡◌, ℕ, zero, suc, ◌<◌, List, ◌++◌, length, sym, ap}
-use Rattle.std.proofs.Common.{◌∙◌, arith, length-append, slice_index_or}
+use Rattle.std.proofs.Common.{◌≡◌, ℕ, zero, suc, ◌<◌, List, ◌++◌, length, sym, ap, ◌∙◌, arith}
+use Rattle.std.proofs.Common.{length-append, slice_index_or}
 use Rattle.std.proofs.lemmas.List.{get_or_append_left}
-use Rattle.literal.specs.fx_model.declared.ExprId.{ExprId}
-use Rattle.literal.specs.fx_model.declared.Node.{Node}
-use Rattle.literal.specs.fx_model.declared.Node.TheVariants.{Var}
-use Rattle.literal.specs.fx_model.Expression.{Assignment, IsOrdered, node_value}
-use Rattle.literal.specs.fx_model.Expression.{value, value_step}
-use Rattle.literal.specs.fx_model.Expression.{same_children}
+use Rattle.fx_model.specs.declared.ExprId.{ExprId}
+use Rattle.fx_model.specs.declared.Node.{Node}
+use Rattle.fx_model.specs.declared.Node.TheVariants.{Var}
+use Rattle.fx_model.specs.Expression.{Assignment, IsOrdered, node_value, value, value_step}
+use Rattle.fx_model.specs.Expression.{same_children}
 
 module _ (nodes more : List Node) (a : Assignment) (o : IsOrdered nodes)
     (p : IsOrdered (nodes ++ more)) where

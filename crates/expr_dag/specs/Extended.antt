@@ -1,8 +1,8 @@
 -- A list of nodes that others follow.
 use Rattle.std.specs.Prelude.{◌≡◌, ◌<◌, List, ◌++◌, length}
-use Rattle.literal.specs.fx_model.Expression.{Assignment, IsOrdered, value}
-use Rattle.literal.specs.fx_model.declared.ExprId.{ExprId}
-use Rattle.literal.specs.fx_model.declared.Node.{Node}
+use Rattle.fx_model.specs.Expression.{Assignment, IsOrdered, value}
+use Rattle.fx_model.specs.declared.ExprId.{ExprId}
+use Rattle.fx_model.specs.declared.Node.{Node}
 
 -- The values of its nodes are what they were.
 abbrev pub ValuesStay : Type 0

@@ -1,9 +1,8 @@
 -- How nodes are hashed.
 use Rattle.std.specs.Prelude.{◌++◌}
 use Rattle.std.specs.Hash as fed
-use Rattle.literal.specs.fx_model.declared.Node.{Node}
-use Rattle.literal.specs.fx_model.declared.Node.TheVariants.{Var, Lit, Neg, Add, Sub, Mul, Div, Abs}
-use Rattle.literal.specs.fx_model.declared.Node.TheVariants.{Round}
+use Rattle.fx_model.specs.declared.Node.{Node}
+use Rattle.fx_model.specs.declared.Node.TheVariants.{Var, Lit, Neg, Add, Sub, Mul, Div, Abs, Round}
 
 -- what is written into a hasher for a node: its kind, and what it is made of
 abbrev pub hashed : Node → fed.HashWrites

@@ -1,6 +1,3 @@
--- What callers name of the crates below.
-pub use Rattle.literal.specs.fx_model as fx_model
-pub use Rattle.literal.specs as literal
 pub mod Hashed
 pub mod Nodes
 pub mod Same

@@ -2,12 +2,11 @@
 use Rattle.std.specs.Prelude.{◌≡◌, ℕ, ◌<◌, ◌≤◌, pos, negsuc, Bool, List, [], ◌∷◌, ◌++◌, length}
 use Rattle.std.specs.Prelude.{slice_get, position, Option, Some, None, ◌⊎◌, ⊤}
 use Rattle.std.proofs.Common.{sym, ◌∙◌}
-use Rattle.literal.specs.fx_model.declared.ExprId.{ExprId}
-use Rattle.literal.specs.fx_model.declared.Node.{Node}
-use Rattle.literal.specs.fx_model.declared.Node.TheVariants.{Var, Lit, Neg, Add, Sub, Mul, Div, Abs}
-use Rattle.literal.specs.fx_model.declared.Node.TheVariants.{Round}
-use Rattle.literal.specs.fx_model.contracts.NodePartialEq.TheImpl as node_eq
-use Rattle.literal.specs.fx_model.Expression.{Assignment, ChildrenBelow, value}
+use Rattle.fx_model.specs.declared.ExprId.{ExprId}
+use Rattle.fx_model.specs.declared.Node.{Node}
+use Rattle.fx_model.specs.declared.Node.TheVariants.{Var, Lit, Neg, Add, Sub, Mul, Div, Abs, Round}
+use Rattle.fx_model.specs.contracts.NodePartialEq.TheImpl as node_eq
+use Rattle.fx_model.specs.Expression.{Assignment, ChildrenBelow, value}
 use Rattle.literal.specs.Spelling.{IsBetween}
 use Rattle.literal.specs.Normal.{IsNormal}
 

@@ -2,12 +2,11 @@
 use Rattle.std.specs.Prelude.{◌≡◌, ◌≢◌, Bool, true, false, List, Option, Some, None, if◌then◌else◌}
 use Rattle.std.specs.Prelude.{refl}
 use Rattle.std.proofs.Common.{sym, ap, ◌∙◌}
-use Rattle.literal.specs.fx_model.Fraction.{Fraction, ◌/ℚ◌, zero_ℚ, is_zero_ℚ, is_zero_out}
-use Rattle.literal.specs.fx_model.Fraction.{is_zero_not}
-use Rattle.literal.specs.fx_model.Expression.{Assignment, IsOrdered, value, node_value, lift₁}
-use Rattle.literal.specs.fx_model.Expression.{lift₂, quotient}
-use Rattle.literal.specs.fx_model.declared.ExprId.{ExprId}
-use Rattle.literal.specs.fx_model.declared.Node.{Node}
+use Rattle.fx_model.specs.Fraction.{Fraction, ◌/ℚ◌, zero_ℚ, is_zero_ℚ, is_zero_out, is_zero_not}
+use Rattle.fx_model.specs.Expression.{Assignment, IsOrdered, value, node_value, lift₁, lift₂}
+use Rattle.fx_model.specs.Expression.{quotient}
+use Rattle.fx_model.specs.declared.ExprId.{ExprId}
+use Rattle.fx_model.specs.declared.Node.{Node}
 use Rattle.expr_dag.specs.Shapes.{is_at, is_at_out, node_at-value}
 
 same_some : (x y : Fraction) → Some x ≡ Some y → x ≡ y

@@ -1,23 +1,21 @@
 -- The derived comparison tells nodes apart.
-use Rattle.std.proofs.Common.{◌≡◌, ◌==◌, ◌&&◌, true, false, refl, sym, ap, true≢false}
-use Rattle.std.proofs.Common.{eqb-true}
+use Rattle.std.proofs.Common.{◌≡◌, ◌==◌, ◌&&◌, true, false, refl, sym, ap, true≢false, eqb-true}
 use Rattle.std.specs.Ordering.{int_eq}
 use Rattle.std.proofs.lemmas.Bool.Decides.{Decides-int_eq}
 use Rattle.std.proofs.lemmas.Bool.{and_parts}
-use Rattle.literal.specs.fx_model.declared.Direction.{Direction}
-use Rattle.literal.specs.fx_model.declared.Direction.TheVariants.{Zr, Aw, Dn, Up, Od, Ne, No, Nz}
-use Rattle.literal.specs.fx_model.declared.Direction.TheVariants.{Na, Nd, Nu}
-use Rattle.literal.specs.fx_model.declared.Node.{Node}
-use Rattle.literal.specs.fx_model.declared.Literal.{Literal}
-use Rattle.literal.specs.fx_model.declared.Rounding.{Rounding}
-use Rattle.literal.specs.fx_model.declared.ExprId.{ExprId}
-use Rattle.literal.specs.fx_model.declared.Node.TheVariants.{Var, Lit, Neg, Add, Sub, Mul, Div, Abs}
-use Rattle.literal.specs.fx_model.declared.Node.TheVariants.{Round}
-use Rattle.literal.specs.fx_model.contracts.DirectionPartialEq.TheImpl as direction_eq
-use Rattle.literal.specs.fx_model.contracts.LiteralPartialEq.TheImpl as literal_eq
-use Rattle.literal.specs.fx_model.contracts.RoundingPartialEq.TheImpl as rounding_eq
-use Rattle.literal.specs.fx_model.contracts.ExprIdPartialEq.TheImpl as id_eq
-use Rattle.literal.specs.fx_model.contracts.NodeEq.TheImpl.Laws as node_laws
+use Rattle.fx_model.specs.declared.Direction.{Direction}
+use Rattle.fx_model.specs.declared.Direction.TheVariants.{Zr, Aw, Dn, Up, Od, Ne, No, Nz, Na, Nd}
+use Rattle.fx_model.specs.declared.Direction.TheVariants.{Nu}
+use Rattle.fx_model.specs.declared.Node.{Node}
+use Rattle.fx_model.specs.declared.Literal.{Literal}
+use Rattle.fx_model.specs.declared.Rounding.{Rounding}
+use Rattle.fx_model.specs.declared.ExprId.{ExprId}
+use Rattle.fx_model.specs.declared.Node.TheVariants.{Var, Lit, Neg, Add, Sub, Mul, Div, Abs, Round}
+use Rattle.fx_model.specs.contracts.DirectionPartialEq.TheImpl as direction_eq
+use Rattle.fx_model.specs.contracts.LiteralPartialEq.TheImpl as literal_eq
+use Rattle.fx_model.specs.contracts.RoundingPartialEq.TheImpl as rounding_eq
+use Rattle.fx_model.specs.contracts.ExprIdPartialEq.TheImpl as id_eq
+use Rattle.fx_model.specs.contracts.NodeEq.TheImpl.Laws as node_laws
 use Rattle.expr_dag.specs.Nodes.{same_node}
 
 same_direction : (x y : Direction) → (direction_eq.ghosts).eq x y ≡ true → x ≡ y

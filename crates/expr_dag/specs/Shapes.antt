@@ -3,9 +3,9 @@ use Rattle.std.specs.Prelude.{◌≡◌, ◌&&◌, Bool, true, false, List, Opti
 use Rattle.std.specs.Prelude.{nat_lt, length}
 use Rattle.std.proofs.Common.{ap, ◌∙◌}
 use Rattle.std.proofs.lemmas.Option.{slice_get_within, get_or_from_slice_get}
-use Rattle.literal.specs.fx_model.declared.ExprId.{ExprId}
-use Rattle.literal.specs.fx_model.declared.Node.{Node}
-use Rattle.literal.specs.fx_model.Expression.{Assignment, IsOrdered, value, node_value, value_step}
+use Rattle.fx_model.specs.declared.ExprId.{ExprId}
+use Rattle.fx_model.specs.declared.Node.{Node}
+use Rattle.fx_model.specs.Expression.{Assignment, IsOrdered, value, node_value, value_step}
 use Rattle.expr_dag.specs.Nodes.{same_node}
 use Rattle.expr_dag.specs.Same.{same}
 

@@ -1,17 +1,17 @@
 //! The list of nodes.
 
-ghost use Rattle.std.specs.Prelude.{◌≡◌, ◌<◌, ◌≤◌, ◌↔◌, [], length, slice_index_or, slice_get};
-ghost use Rattle.std.specs.Prelude.{Err, Some, IsNone, IfSome, IfOk, OnErr};
-ghost use Rattle.literal.specs.fx_model.declared.Node.{Node};
-ghost use Rattle.literal.specs.fx_model.declared.ExprId.{ExprId};
-ghost use Rattle.literal.specs.fx_model.Expression.{IsOrdered};
+ghost use Rattle.std.specs.Prelude.{◌≡◌, ◌<◌, ◌≤◌, ◌↔◌, [], length, slice_index_or, slice_get, Err};
+ghost use Rattle.std.specs.Prelude.{Some, IsNone, IfSome, IfOk, OnErr};
+ghost use Rattle.fx_model.specs.declared.Node.{Node};
+ghost use Rattle.fx_model.specs.declared.ExprId.{ExprId};
+ghost use Rattle.fx_model.specs.Expression.{IsOrdered};
 ghost use Rattle.expr_dag.specs.Shapes.{is_at, is_known, are_known};
 ghost use Rattle.expr_dag.specs.Nodes.{IsLawful, IsAt, IsAbsent, IsFull, IsPlaced, IsKept};
 ghost use Rattle.expr_dag.specs.Nodes.{place_of, with_node};
 
 use crate::key::Key;
 use indexmap::IndexSet;
-use literal::{ExprId, Node};
+use fx_model::{ExprId, Node};
 use std::alloc::{AllocError, Global};
 use std::marker::Model;
 use thiserror::Error;
@@ -38,7 +38,7 @@ pub struct Dag {
 
 impl Model for Dag {
     ghost use Rattle.std.specs.Prelude.{List};
-    ghost use Rattle.literal.specs.fx_model.declared.Node.{Node};
+    ghost use Rattle.fx_model.specs.declared.Node.{Node};
     ghost use Rattle.expr_dag.specs.Nodes.{IsShared};
 
     ghost Value = { List Node };

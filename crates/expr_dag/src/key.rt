@@ -6,7 +6,7 @@ ghost use Rattle.std.proofs.Common.{rules};
 ghost use Rattle.expr_dag.specs.Hashed.{hashed};
 ghost use Rattle.expr_dag.specs.Nodes.{same_node};
 
-use literal::Node;
+use fx_model::Node;
 use std::hash::{Hash, Hasher};
 use std::marker::Model;
 
@@ -17,7 +17,7 @@ pub struct Key {
 }
 
 impl Model for Key {
-    ghost use Rattle.literal.specs.fx_model.declared.Node.{Node};
+    ghost use Rattle.fx_model.specs.declared.Node.{Node};
 
     ghost Value = { Node };
 

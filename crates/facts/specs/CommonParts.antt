@@ -7,13 +7,13 @@ use Rattle.std.proofs.Common.{sym, ◌∙◌, ap, subst, arith, inl, inr}
 use Rattle.std.proofs.lemmas.Int.{ints}
 use Rattle.std.proofs.lemmas.Bool.{eqb-true, eq-eqb}
 use Rattle.std.specs.List.{AllByRecursion}
-use Rattle.interval.specs.fx_model.declared.ExprId.{ExprId}
-use Rattle.interval.specs.fx_model.Fraction.{zero_ℚ, one_ℚ, neg_ℚ}
-use Rattle.interval.specs.fx_model.Grid.{At}
-use Rattle.interval.specs.fx_model.Enclosure.{BoundLe}
+use Rattle.fx_model.specs.declared.ExprId.{ExprId}
+use Rattle.fx_model.specs.Fraction.{zero_ℚ, one_ℚ, neg_ℚ}
+use Rattle.fx_model.specs.Grid.{At}
+use Rattle.fx_model.specs.Enclosure.{BoundLe}
+use Rattle.dyadic.specs.Extremes.{BoundLe-trans}
 use Rattle.interval.specs.declared.interval.Interval.{Interval}
 use Rattle.interval.specs.Intervals.{range_of}
-use Rattle.interval.specs.dyadic.Extremes.{BoundLe-trans}
 use Rattle.interval.specs.Meets.{common_of, common-within, within-common}
 use Rattle.facts.specs.declared.size.Size.{Size}
 use Rattle.facts.specs.declared.relative.RelativeError.{RelativeError}

@@ -5,13 +5,13 @@ use Rattle.std.specs.Option.{IsSomeAnd}
 use Rattle.std.specs.Int.RustNames.{int_lt}
 use Rattle.std.proofs.Common.{sym, ◌∙◌, ap, subst, inl, inr, ⊎_elim, rules}
 use Rattle.std.proofs.lemmas.Bool.{and_parts}
-use Rattle.interval.specs.fx_model.Fraction.{Fraction, ◌-ℚ◌, ◌/ℚ◌, abs_ℚ, zero_ℚ, one_ℚ}
-use Rattle.interval.specs.fx_model.Powers.{IsMultiple, scaled, scaled-shift}
-use Rattle.interval.specs.fx_model.Enclosure.{Lies, within_in}
-use Rattle.interval.specs.fx_model.Expression.{Assignment, value}
-use Rattle.interval.specs.fx_model.declared.Node.{Node}
-use Rattle.interval.specs.fx_model.declared.ExprId.{ExprId}
-use Rattle.interval.specs.dyadic.Odd.{above}
+use Rattle.fx_model.specs.Fraction.{Fraction, ◌-ℚ◌, ◌/ℚ◌, abs_ℚ, zero_ℚ, one_ℚ}
+use Rattle.fx_model.specs.Powers.{IsMultiple, scaled, scaled-shift}
+use Rattle.fx_model.specs.Enclosure.{Lies, within_in}
+use Rattle.fx_model.specs.Expression.{Assignment, value}
+use Rattle.fx_model.specs.declared.Node.{Node}
+use Rattle.fx_model.specs.declared.ExprId.{ExprId}
+use Rattle.dyadic.specs.Odd.{above}
 use Rattle.interval.specs.declared.interval.Interval.{Interval}
 use Rattle.interval.specs.Intervals.{range_of}
 use Rattle.interval.specs.Meets.{common_of, lies-common}

@@ -1,11 +1,11 @@
 -- What a fact says of an assignment (Gappa User's Guide, "Predicates").
 use Rattle.std.specs.Prelude.{◌≡◌, ◌≢◌, ◌⊎◌, Option, Some, None, List}
 use Rattle.std.specs.Option.{IsSomeAnd}
-use Rattle.interval.specs.fx_model.Fraction.{Fraction, ◌-ℚ◌, ◌/ℚ◌, abs_ℚ, zero_ℚ, one_ℚ}
-use Rattle.interval.specs.fx_model.Powers.{IsMultiple}
-use Rattle.interval.specs.fx_model.Enclosure.{Lies}
-use Rattle.interval.specs.fx_model.Expression.{Assignment, value}
-use Rattle.interval.specs.fx_model.declared.Node.{Node}
+use Rattle.fx_model.specs.Fraction.{Fraction, ◌-ℚ◌, ◌/ℚ◌, abs_ℚ, zero_ℚ, one_ℚ}
+use Rattle.fx_model.specs.Powers.{IsMultiple}
+use Rattle.fx_model.specs.Enclosure.{Lies}
+use Rattle.fx_model.specs.Expression.{Assignment, value}
+use Rattle.fx_model.specs.declared.Node.{Node}
 use Rattle.interval.specs.declared.interval.Interval.{Interval}
 use Rattle.interval.specs.Intervals.{range_of}
 use Rattle.facts.specs.declared.relative.RelativeError.{RelativeError}

@@ -2,11 +2,11 @@
 use Rattle.std.specs.Prelude.{◌≡◌, ◌≢◌, List, Option, Some, None, refl}
 use Rattle.std.specs.Option.{IsSomeAnd}
 use Rattle.std.proofs.Common.{sym, subst, ◌∙◌}
-use Rattle.interval.specs.fx_model.Fraction.{Fraction, zero_ℚ}
-use Rattle.interval.specs.fx_model.Enclosure.{Lies}
-use Rattle.interval.specs.fx_model.Expression.{Assignment, value}
-use Rattle.interval.specs.fx_model.declared.ExprId.{ExprId}
-use Rattle.interval.specs.fx_model.declared.Node.{Node}
+use Rattle.fx_model.specs.Fraction.{Fraction, zero_ℚ}
+use Rattle.fx_model.specs.Enclosure.{Lies}
+use Rattle.fx_model.specs.Expression.{Assignment, value}
+use Rattle.fx_model.specs.declared.ExprId.{ExprId}
+use Rattle.fx_model.specs.declared.Node.{Node}
 use Rattle.interval.specs.declared.interval.Interval.{Interval}
 use Rattle.interval.specs.Intervals.{range_of}
 use Rattle.facts.specs.declared.relative.RelativeError.{RelativeError}

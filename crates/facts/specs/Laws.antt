@@ -2,9 +2,9 @@
 use Rattle.std.specs.Prelude.{◌≡◌, ◌⊎◌, true, Option, Some, None, refl}
 use Rattle.std.proofs.Common.{sym, ◌∙◌, ap, subst, inl, inr, arith, rules}
 use Rattle.std.proofs.lemmas.Int.{ints}
+use Rattle.dyadic.specs.Extremes.{BoundLe-trans, BoundLe-refl}
 use Rattle.interval.specs.declared.interval.Interval.{Interval}
 use Rattle.interval.specs.Intervals.{range_of}
-use Rattle.interval.specs.dyadic.Extremes.{BoundLe-trans, BoundLe-refl}
 use Rattle.interval.specs.Meets.{common_of, common-within, within-common}
 use Rattle.facts.specs.declared.relative.RelativeError.{RelativeError}
 use Rattle.facts.specs.declared.fact.Fact.{Fact}

@@ -1,8 +1,3 @@
--- What callers name of the crates below.
-pub use Rattle.interval.specs.dyadic as dyadic
-pub use Rattle.interval.specs.fx_model as fx_model
-pub use Rattle.interval.specs.grid_words as grid_words
-pub use Rattle.interval.specs as interval
 pub mod Ranges
 pub mod Parts
 pub mod Places

@@ -1,13 +1,14 @@
 -- Which facts have a meet, and that facts which are each stronger than the other are the same.
+use mathlib.Core.HLevel.{is_prop→PathP}
 use Rattle.std.specs.Prelude.{◌≡◌, ◌&&◌, ◌⊎◌, ◌↔◌, ℤ, pos, negsuc, ◌≤ℤ◌, Option, Some, None, refl}
 use Rattle.std.proofs.Common.{sym, ◌∙◌, ap, subst, inl, inr, ⊎_elim, arith, rules}
 use Rattle.std.proofs.lemmas.Int.{ints}
 use Rattle.std.proofs.Math.Dec.{T_prop}
 use Rattle.std.proofs.lemmas.Bool.{and_parts}
-use mathlib.Core.HLevel.{is_prop→PathP}
-use Rattle.interval.specs.fx_model.Fraction.{le_antisymm}
-use Rattle.interval.specs.fx_model.Grid.{Bound, Below, At, Above}
-use Rattle.interval.specs.fx_model.Enclosure.{BoundLe}
+use Rattle.fx_model.specs.Fraction.{le_antisymm}
+use Rattle.fx_model.specs.Grid.{Bound, Below, At, Above}
+use Rattle.fx_model.specs.Enclosure.{BoundLe}
+use Rattle.dyadic.specs.Extremes.{BoundLe-antisymm}
 use Rattle.interval.specs.declared.interval.Interval.{Interval}
 use Rattle.interval.specs.Intervals.{range_of, same_range}
 use Rattle.interval.specs.Meets.{common_of}
@@ -23,7 +24,6 @@ use Rattle.facts.specs.Order.{slot_of, IsWithin, IsWithinError, IsStronger, is_s
 use Rattle.facts.specs.Order.{meet_of, AreUnlike}
 use Rattle.facts.specs.CommonParts.{at_option, some-inj, if-some, expr_same}
 use Rattle.facts.specs.Laws.{IsStronger-refl, IsStronger-slot, IsStronger-meet, IsMeet, meet_exists}
-use Rattle.interval.specs.dyadic.Extremes.{BoundLe-antisymm}
 
 -- ---- one fact only is as strong as another both ways
 intervals_same : (i j : Interval) → IsWithin i j → IsWithin j i → i ≡ j

@@ -1,7 +1,7 @@
 -- Slots, the order of facts, and their meet.
 use Rattle.std.specs.Prelude.{◌≡◌, ◌==◌, ◌&&◌, ◌≤ℤ◌, Bool, Option, Some, None, if◌then◌else◌}
-use Rattle.interval.specs.fx_model.declared.ExprId.{ExprId}
-use Rattle.interval.specs.fx_model.Enclosure.{Within}
+use Rattle.fx_model.specs.declared.ExprId.{ExprId}
+use Rattle.fx_model.specs.Enclosure.{Within}
 use Rattle.interval.specs.declared.interval.Interval.{Interval}
 use Rattle.interval.specs.Intervals.{range_of}
 use Rattle.interval.specs.Meets.{common_of}

@@ -2,10 +2,9 @@
 use Rattle.std.specs.Prelude.{◌≡◌, Option, Some, None, if◌then◌else◌}
 use Rattle.std.specs.Int.RustNames.{int_lt}
 use Rattle.std.proofs.Common.{sym, ap}
-use Rattle.interval.specs.fx_model.Fraction.{zero_ℚ, one_ℚ, neg_ℚ}
-use Rattle.interval.specs.fx_model.Grid.{At}
-use Rattle.interval.specs.dyadic.Order.{le_bound}
-use Rattle.interval.specs.dyadic.Compared.{BoundLe_in, BoundLe_out}
+use Rattle.fx_model.specs.Fraction.{zero_ℚ, one_ℚ, neg_ℚ}
+use Rattle.fx_model.specs.Grid.{At, le_bound}
+use Rattle.dyadic.specs.Compared.{BoundLe_in, BoundLe_out}
 use Rattle.interval.specs.declared.interval.Interval.{Interval}
 use Rattle.interval.specs.Intervals.{range_of}
 use Rattle.interval.specs.Results.{half_line}

@@ -1,7 +1,7 @@
 -- Premises that are stronger than those of a known shape have that shape.
 use Rattle.std.specs.Prelude.{◌≡◌, ◌≤ℤ◌, List, [], ◌∷◌, Option, Some, refl}
 use Rattle.std.proofs.Common.{ap, ◌∙◌}
-use Rattle.interval.specs.fx_model.declared.ExprId.{ExprId}
+use Rattle.fx_model.specs.declared.ExprId.{ExprId}
 use Rattle.interval.specs.declared.interval.Interval.{Interval}
 use Rattle.facts.specs.declared.place.FixPlace.{FixPlace}
 use Rattle.facts.specs.declared.size.Size.{Size}

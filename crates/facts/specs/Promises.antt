@@ -1,8 +1,8 @@
 -- What a rule promises.
 use Rattle.std.specs.Prelude.{◌≡◌, ◌⊎◌, List, [], ◌∷◌, Option, Some}
 use Rattle.std.specs.List.{AllByRecursion}
-use Rattle.interval.specs.fx_model.Expression.{Assignment, IsOrdered}
-use Rattle.interval.specs.fx_model.declared.Node.{Node}
+use Rattle.fx_model.specs.Expression.{Assignment, IsOrdered}
+use Rattle.fx_model.specs.declared.Node.{Node}
 use Rattle.facts.specs.declared.fact.Fact.{Fact}
 use Rattle.facts.specs.declared.fact.Slot.{Slot}
 use Rattle.facts.specs.declared.fact.Fact.TheVariants as fact

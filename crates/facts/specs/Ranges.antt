@@ -1,11 +1,11 @@
 -- The ranges that kinds of facts keep.
+use mathlib.Core.HLevel.{⊥_prop, Unit-prop}
 use Rattle.std.specs.Prelude.{◌≡◌, ⊤, Bool, true, false, not, refl}
 use Rattle.std.proofs.lemmas.Bool.{not-true}
-use Rattle.interval.specs.fx_model.Fraction.{Fraction, ◌<ℚ◌, le_ℚ, zero_ℚ, one_ℚ, neg_ℚ, Le-prop}
-use Rattle.interval.specs.fx_model.Fraction.{Lt-prop, lt_le_trans}
-use Rattle.interval.specs.fx_model.Grid.{Bound, Below, At, Above}
-use Rattle.interval.specs.fx_model.Enclosure.{Range, BoundLe}
-use mathlib.Core.HLevel.{⊥_prop, Unit-prop}
+use Rattle.fx_model.specs.Fraction.{Fraction, ◌<ℚ◌, le_ℚ, zero_ℚ, one_ℚ, neg_ℚ, Le-prop, Lt-prop}
+use Rattle.fx_model.specs.Fraction.{lt_le_trans}
+use Rattle.fx_model.specs.Grid.{Bound, Below, At, Above}
+use Rattle.fx_model.specs.Enclosure.{Range, BoundLe}
 
 pub BoundLe-prop : (b c : Bound) → IsProp (BoundLe b c)
 BoundLe-prop Below c = Unit-prop

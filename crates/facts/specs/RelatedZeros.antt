@@ -1,10 +1,10 @@
 -- Of two related values one is 0 exactly where the other is.
 use Rattle.std.specs.Prelude.{◌≡◌, ◌≢◌}
 use Rattle.std.proofs.Common.{ap, subst, ◌∙◌, ⊎_elim}
-use Rattle.interval.specs.fx_model.Fraction.{Fraction, ◌-ℚ◌, ◌/ℚ◌, inverse_ℚ, neg_ℚ, zero_ℚ, one_ℚ}
-use Rattle.interval.specs.fx_model.Fraction.{lt_not, zero-add, zero-mul}
-use Rattle.interval.specs.fx_model.Grid.{Bound, Below, At, Above}
-use Rattle.interval.specs.fx_model.Enclosure.{Lies, IsFrom}
+use Rattle.fx_model.specs.Fraction.{Fraction, ◌-ℚ◌, ◌/ℚ◌, inverse_ℚ, neg_ℚ, zero_ℚ, one_ℚ, lt_not}
+use Rattle.fx_model.specs.Fraction.{zero-add, zero-mul}
+use Rattle.fx_model.specs.Grid.{Bound, Below, At, Above}
+use Rattle.fx_model.specs.Enclosure.{Lies, IsFrom}
 use Rattle.interval.specs.Intervals.{range_of}
 use Rattle.facts.specs.declared.relative.RelativeError.{RelativeError}
 use Rattle.facts.specs.Holds.{IsRelated}

@@ -2,8 +2,8 @@
 -- stand.
 use Rattle.std.specs.Prelude.{◌≡◌, Option, Some, None, refl}
 use Rattle.std.proofs.Common.{sym, ap, subst, ◌∙◌, inl, inr}
-use Rattle.interval.specs.fx_model.Fraction.{neg_ℚ, one_ℚ}
-use Rattle.interval.specs.fx_model.declared.ExprId.{ExprId}
+use Rattle.fx_model.specs.Fraction.{neg_ℚ, one_ℚ}
+use Rattle.fx_model.specs.declared.ExprId.{ExprId}
 use Rattle.interval.specs.declared.interval.Interval.{Interval}
 use Rattle.interval.specs.Intervals.{range_of}
 use Rattle.facts.specs.declared.relative.RelativeError.{RelativeError}

@@ -3,11 +3,11 @@ use Rattle.std.specs.Prelude.{◌≡◌, ⊤, Bool, true, false, List, Some}
 use Rattle.std.specs.List.{AllByRecursion}
 use Rattle.std.specs.Option.{IsSomeAnd}
 use Rattle.std.proofs.Common.{ap, ◌∙◌}
-use Rattle.interval.specs.fx_model.Fraction.{Fraction, ◌≤ℚ◌, ◌<ℚ◌}
-use Rattle.interval.specs.fx_model.Grid.{Bound, Below, At, Above}
-use Rattle.interval.specs.fx_model.Expression.{Assignment, value}
-use Rattle.interval.specs.fx_model.declared.Node.{Node}
-use Rattle.interval.specs.dyadic.Ends.{bound_of}
+use Rattle.fx_model.specs.Fraction.{Fraction, ◌≤ℚ◌, ◌<ℚ◌}
+use Rattle.fx_model.specs.Grid.{Bound, Below, At, Above}
+use Rattle.fx_model.specs.Expression.{Assignment, value}
+use Rattle.fx_model.specs.declared.Node.{Node}
+use Rattle.dyadic.specs.Ends.{bound_of}
 use Rattle.facts.specs.declared.hint.Need.{Need}
 use Rattle.facts.specs.declared.hint.Need.TheVariants as need
 use Rattle.facts.specs.declared.hint.HintRow.{HintRow}

@@ -1,20 +1,20 @@
 -- What of an interval is at least 0, where the interval gets smaller.
 use Rattle.std.specs.Prelude.{◌≡◌, Some, None, refl}
 use Rattle.std.proofs.Common.{sym, ap, subst, ◌∙◌}
-use Rattle.interval.specs.fx_model.Fraction.{Fraction, ◌≤ℚ◌, zero_ℚ}
-use Rattle.interval.specs.fx_model.Grid.{At}
-use Rattle.interval.specs.fx_model.Enclosure.{Lies, BoundLe, member_of, within_in}
+use Rattle.fx_model.specs.Fraction.{Fraction, ◌≤ℚ◌, zero_ℚ}
+use Rattle.fx_model.specs.Grid.{At}
+use Rattle.fx_model.specs.Enclosure.{Lies, BoundLe, member_of, within_in}
+use Rattle.dyadic.specs.SmallNumbers.{zero_value}
+use Rattle.dyadic.specs.Extremes.{BoundLe-refl}
 use Rattle.interval.specs.declared.interval.Interval.{Interval}
 use Rattle.interval.specs.Intervals.{range_of}
 use Rattle.interval.specs.Results.{half_line}
 use Rattle.interval.specs.Meets.{common_of, common-within, within-common, lies-common}
 use Rattle.facts.specs.declared.size.Size.{Size}
-use Rattle.interval.specs.dyadic.SmallNumbers.{zero_value}
 use Rattle.facts.specs.Parts.{size_from-some, size_from_out, size_of_part, size_within}
 use Rattle.facts.specs.Order.{IsWithin}
 use Rattle.facts.specs.CommonParts.{at_option, some-inj}
 use Rattle.facts.specs.Laws.{IsWithin-trans}
-use Rattle.interval.specs.dyadic.Extremes.{BoundLe-refl}
 use Rattle.facts.specs.Within.{on_half_line}
 
 -- what lies on the half line is at least 0

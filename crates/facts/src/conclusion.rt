@@ -7,7 +7,8 @@ use crate::fact::Fact;
 use crate::place::FixPlace;
 use crate::relative::RelativeError;
 use crate::size::Size;
-use interval::{ExprId, Interval};
+use fx_model::ExprId;
+use interval::Interval;
 
 impl Fact {
     /// A bound of the expression, where there is an interval.

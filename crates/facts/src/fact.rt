@@ -1,7 +1,8 @@
 use crate::place::FixPlace;
 use crate::relative::RelativeError;
 use crate::size::Size;
-use interval::{ExprId, Interval};
+use fx_model::ExprId;
+use interval::Interval;
 
 /// What is known of one expression, or of two.
 #[derive(Clone, Copy, PartialEq, Eq, Debug)]

@@ -1,5 +1,6 @@
 use fx_edge::Items;
-use interval::{End, ExprId};
+use dyadic::End;
+use fx_model::ExprId;
 
 /// A constraint of a hint on an expression. A bound is a number rounded so that what meets it meets
 /// the written one.

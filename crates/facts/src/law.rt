@@ -1,12 +1,12 @@
 // What holds of all facts, for callers to cite. Nothing here is done at run time.
 ghost use Rattle.std.specs.Prelude.{◌≡◌, ◌⊎◌, ◌↔◌, Option, Some, None, List};
-ghost use Rattle.interval.specs.fx_model.Fraction.{Fraction};
-ghost use Rattle.interval.specs.fx_model.Enclosure.{Lies};
+ghost use Rattle.fx_model.specs.Fraction.{Fraction};
+ghost use Rattle.fx_model.specs.Enclosure.{Lies};
+ghost use Rattle.fx_model.specs.declared.ExprId.{ExprId};
+ghost use Rattle.fx_model.specs.declared.Node.{Node};
+ghost use Rattle.fx_model.specs.Expression.{Assignment};
 ghost use Rattle.interval.specs.declared.interval.Interval.{Interval};
 ghost use Rattle.interval.specs.Intervals.{range_of};
-ghost use Rattle.interval.specs.fx_model.declared.ExprId.{ExprId};
-ghost use Rattle.interval.specs.fx_model.declared.Node.{Node};
-ghost use Rattle.interval.specs.fx_model.Expression.{Assignment};
 ghost use Rattle.facts.specs.declared.size.Size.{Size};
 ghost use Rattle.facts.specs.declared.relative.RelativeError.{RelativeError};
 ghost use Rattle.facts.specs.declared.fact.Fact.{Fact};

@@ -1,9 +1,6 @@
 //! Facts on expressions: what they say of an assignment, their order and their meet.
 #![tactic(auto)]
 
-// What callers name of the crates below.
-pub use fx_edge::{Items, Path};
-pub use interval::{Dyadic, End, ExprId, Interval, Points, enclose, greater, opposite};
 
 mod conclusion;
 mod fact;
@@ -18,10 +15,7 @@ mod size;
 pub use fact::{Fact, Slot};
 pub use hint::{HintMark, HintRow, Need};
 pub use instance::Instance;
-pub use law::{
-    held_facts, meet_is_the_weakest_as_strong_as_both, sizes_within_an_interval,
-    stronger_is_an_order, void_and_none_are_strongest,
-};
+pub use law::{held_facts, meet_is_the_weakest_as_strong_as_both, sizes_within_an_interval, stronger_is_an_order, void_and_none_are_strongest};
 pub use order::{meet, slot, stronger};
 pub use place::FixPlace;
 pub use relative::RelativeError;

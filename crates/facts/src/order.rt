@@ -8,7 +8,8 @@ use crate::fact::{Fact, Slot};
 use crate::place::FixPlace;
 use crate::relative::RelativeError;
 use crate::size::Size;
-use interval::{ExprId, Interval};
+use fx_model::ExprId;
+use interval::Interval;
 
 /// The slot that a fact stands on.
 pub fn slot(f: &Fact) -> Slot

@@ -1,10 +1,11 @@
 ghost use Rattle.std.specs.Prelude.{◌↔◌, ◌≡◌, IsTrue, IsNone, IfSome};
-ghost use Rattle.interval.specs.fx_model.Fraction.{neg_ℚ, one_ℚ};
-ghost use Rattle.interval.specs.dyadic.Ends.{bound_of};
+ghost use Rattle.fx_model.specs.Fraction.{neg_ℚ, one_ℚ};
+ghost use Rattle.dyadic.specs.Ends.{bound_of};
 ghost use Rattle.interval.specs.Intervals.{range_of};
 ghost use Rattle.facts.specs.Ranges.{IsBelow, IsAboveMinusOne, IsAboveMinusOne-prop};
 
-use interval::{End, Interval};
+use dyadic::End;
+use interval::Interval;
 
 /// An interval of relative errors: its lower end is above -1.
 #[derive(Clone, Copy, PartialEq, Eq, Debug)]

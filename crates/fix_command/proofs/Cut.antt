@@ -5,13 +5,13 @@ use Rattle.std.proofs.Common.{refl, subst, arith}
 use Rattle.std.specs.Prelude.{◌⊎◌, min}
 use Rattle.std.proofs.lemmas.Bool.{cases_lt}
 use Rattle.std.proofs.lemmas.List.{length-take, length-take-le, take_all}
+use Rattle.fixprog.specs.declared.fault.ProgFault.{ProgFault}
+use Rattle.fixprog.specs.First.{IsFirstFault, Spells, too_long, not_text, first, faultless}
+use Rattle.whole_texts.specs.Texts.{IsText}
 use Rattle.command_runs.specs.Runs.{Bytes}
 use Rattle.command_runs.specs.Fates.{Left, IsTold}
 use Rattle.command_runs.specs.declared.status.Status.{Status}
 use Rattle.command_runs.specs.declared.status.Status.TheVariants as status
-use Rattle.fixprog.specs.declared.fault.ProgFault.{ProgFault}
-use Rattle.fixprog.specs.First.{IsFirstFault, Spells, too_long, not_text, first, faultless}
-use Rattle.whole_texts.specs.Texts.{IsText}
 use Rattle.fix_command.specs.Command.{FixText}
 
 -- two texts that are too long have the same first fault

@@ -1,17 +1,17 @@
 -- How `fix` ends, by what its parts did.
 use Rattle.std.proofs.Common.{◌≡◌, ◌≢◌, ◌<◌, ◌^◌, ℕ, Option, Some, None, refl, sym, ap, subst}
 use Rattle.std.specs.Io.KnownBytes.{Keeps}
+use Rattle.fixprog.specs.First.{FirstsAreUnique}
 use Rattle.command_line.specs.Fix.{AskedFix}
+use Rattle.whole_texts.specs.Texts.{IsText}
+use Rattle.whole_texts.specs.declared.read.ReadStop.{ReadStop}
+use Rattle.whole_texts.specs.declared.read.ReadStop.TheVariants as stop
 use Rattle.command_runs.specs.Runs.{Bytes, Run, IsKept, ReadFailed, WriteFailed}
 use Rattle.command_runs.specs.Ends.{IsPutBy, IsStopPutBy, put_runs, stop_runs, unwritten_runs}
 use Rattle.command_runs.specs.Ends.{run_by, unread_kept, unread_once}
 use Rattle.command_runs.specs.Fates.{Left, Leaves, begun, Runs, MayWrite, IsKeptFile}
 use Rattle.command_runs.specs.declared.status.Status.{Status}
 use Rattle.command_runs.specs.declared.status.Status.TheVariants as status
-use Rattle.fixprog.specs.First.{FirstsAreUnique}
-use Rattle.whole_texts.specs.Texts.{IsText}
-use Rattle.whole_texts.specs.declared.read.ReadStop.{ReadStop}
-use Rattle.whole_texts.specs.declared.read.ReadStop.TheVariants as stop
 use Rattle.fix_command.specs.Command.{FixText, FixTold, FixFate, IsFixRun, Reads}
 use Rattle.fix_command.proofs.Cut.{told_text}
 use Rattle.fix_command.proofs.Fated.{ended, fated, keeps, once}

@@ -1,5 +1,7 @@
 -- The fates of `fix`: each is of one text, which has one first fault, or none.
 use Rattle.std.proofs.Common.{◌≡◌, ◌≢◌, Option, Some, None, refl, sym, ap, subst, ◌∙◌}
+use Rattle.fixprog.specs.declared.fault.ProgFault.{ProgFault}
+use Rattle.fixprog.specs.First.{IsFirstFault, FirstsAreUnique}
 use Rattle.command_line.specs.Fix.{AskedFix}
 use Rattle.command_runs.specs.Runs.{Bytes, Told, Run}
 use Rattle.command_runs.specs.Ends.{IsOnce, or_unread}
@@ -8,8 +10,6 @@ use Rattle.command_runs.specs.Fates.Ending.{Done}
 use Rattle.command_runs.specs.Fates.Left.{Kept}
 use Rattle.command_runs.specs.declared.status.Status.{Status}
 use Rattle.command_runs.specs.declared.status.Status.TheVariants as status
-use Rattle.fixprog.specs.declared.fault.ProgFault.{ProgFault}
-use Rattle.fixprog.specs.First.{IsFirstFault, FirstsAreUnique}
 use Rattle.fix_command.specs.Command.{FixText, FixTold, FixFate, Reads}
 
 -- ---- statuses

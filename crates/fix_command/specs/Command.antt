@@ -1,14 +1,14 @@
 -- What `fix` does.
 use Rattle.std.specs.Prelude.{◌≡◌, length, Option, Some, None}
+use Rattle.fixprog.specs.declared.fault.ProgFault.{ProgFault}
+use Rattle.fixprog.specs.First.{IsFirstFault, Spells}
+use Rattle.fixprog.specs.Grammar.{Program, outputs}
+use Rattle.fixprog.specs.Turned.{script_of}
 use Rattle.command_line.specs.Fix.{AskedFix}
 use Rattle.command_runs.specs.Runs.{Bytes, Told, Run}
 use Rattle.command_runs.specs.Fates.{Left, Fate, IsRunOf, MayWrite, OrUnread, IsKeptFile, OfText}
 use Rattle.command_runs.specs.Fates.Left.{Kept, Whole}
 use Rattle.command_runs.specs.declared.status.Status.TheVariants as status
-use Rattle.fixprog.specs.declared.fault.ProgFault.{ProgFault}
-use Rattle.fixprog.specs.First.{IsFirstFault, Spells}
-use Rattle.fixprog.specs.Grammar.{Program, outputs}
-use Rattle.fixprog.specs.Turned.{script_of}
 use Rattle.fix_command.specs.Lines.{fix_line, program_fault_line}
 
 -- The text spells a program. The line has the numbers of its steps and outputs, and the file its

@@ -1,15 +1,15 @@
 -- How a run ends of which nothing of the outside failed.
 use Rattle.std.specs.Prelude.{◌≡◌, ◌⊎◌, Some, length}
 use Rattle.std.proofs.Common.{refl, ap, subst, sym, ◌∙◌}
+use Rattle.fixprog.specs.First.{Spells}
+use Rattle.fixprog.specs.Grammar.{Program, outputs}
+use Rattle.fixprog.specs.Turned.{script_of}
 use Rattle.command_line.specs.Fix.{AskedFix}
 use Rattle.command_runs.specs.Runs.{Bytes, Run, ReadFailed, WriteFailed, PutFailed}
 use Rattle.command_runs.specs.Ends.{sure_run}
 use Rattle.command_runs.specs.Fates.{IsTold, IsKeptFile, MayWrite}
 use Rattle.command_runs.specs.Fates.Left.{Whole}
 use Rattle.command_runs.specs.declared.status.Status.TheVariants as status
-use Rattle.fixprog.specs.First.{Spells}
-use Rattle.fixprog.specs.Grammar.{Program, outputs}
-use Rattle.fixprog.specs.Turned.{script_of}
 use Rattle.fix_command.specs.Command.{FixTold, IsFixRun, Reads}
 use Rattle.fix_command.specs.Lines.{fix_line}
 

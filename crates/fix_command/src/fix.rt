@@ -1,8 +1,8 @@
 // The command.
 ghost use Rattle.std.specs.Prelude.{IsErr, OnOk, OnErr, string_bytes};
 ghost use Rattle.std.specs.Option.{option_map};
-ghost use Rattle.whole_texts.specs.OnlyWrites.{OnlyWrites};
 ghost use Rattle.command_line.specs.Fix.{fix_of};
+ghost use Rattle.whole_texts.specs.OnlyWrites.{OnlyWrites};
 ghost use Rattle.command_runs.specs.Fates.{Leaves, begun};
 ghost use Rattle.command_runs.specs.Runs.{run, seen};
 ghost use Rattle.fix_command.specs.Command.{IsFixRun, left_of};

@@ -12,6 +12,7 @@ use Rattle.script_words.specs.declared.lex.TokenKind.TheVariants as script
 use Rattle.script_words.specs.Literals.{run_len, literal_len}
 use Rattle.script_words.specs.Signs.{sign_at, reserved_word}
 use Rattle.script_words.specs.Lex.{blank_len, word_kind, sign_token, front as script_front}
+use Rattle.script_words.specs.Within.{run-le, literal-le}
 use Rattle.fixprog.specs.declared.token.Kind.{Kind}
 use Rattle.fixprog.specs.declared.token.Kind.TheVariants as kind
 use Rattle.fixprog.specs.declared.token.ProgramToken.{ProgramToken}
@@ -19,7 +20,6 @@ use Rattle.fixprog.specs.Words.{kind_word}
 use Rattle.fixprog.specs.Lex.{front, format_len, own_sign, of_script, or_else, Lexes, ends, bad}
 use Rattle.fixprog.specs.Lex.{token, token_word, words_of}
 use Rattle.fixprog.specs.First.{IsAlone, IsAloneWord, WordsAreAlone}
-use Rattle.script_words.specs.Within.{run-le, literal-le}
 use Rattle.fixprog.proofs.Alone.{word_by_itself, literal_by_itself}
 
 -- the token is a name or a literal, or something else that is told by its kind

@@ -1,7 +1,8 @@
 -- The script of a program is ASCII.
-use Rattle.std.proofs.Common.{◌≡◌, ℕ, pos, zero, suc, ◌-◌, ◌^◌, ◌<◌, ◌≤◌, nat_lt, Bool, true}
-use Rattle.std.proofs.Common.{false, codes, List, [], ◌∷◌, ◌++◌, map, None, refl, sym, subst, arith}
-use Rattle.std.proofs.Common.{lit≤, lit<, if◌then◌else◌}
+use lib.Signed.{mag}
+use Rattle.std.proofs.Common.{◌≡◌, ℕ, pos, zero, suc, ◌-◌, ◌^◌, ◌<◌, ◌≤◌, nat_lt, Bool, true, false}
+use Rattle.std.proofs.Common.{codes, List, [], ◌∷◌, ◌++◌, map, None, refl, sym, subst, arith, lit≤}
+use Rattle.std.proofs.Common.{lit<, if◌then◌else◌}
 use Rattle.std.specs.Prelude.{neg_ℤ}
 use Rattle.std.specs.List.{AllByRecursion, list_all, flat_map}
 use Rattle.std.specs.Str.{IsAscii, IsUtf8}
@@ -12,7 +13,7 @@ use Rattle.std.proofs.lemmas.Str.{IsAscii-append, IsUtf8-from_ascii}
 use Rattle.std.proofs.lemmas.Str.Ascii.{IsAscii-from_all, IsAscii-nil}
 use Rattle.std.proofs.Math.Nat.{pow-le-pow_right}
 use Rattle.std.proofs.lemmas.Bool.{and_parts}
-use lib.Signed.{mag}
+use Rattle.script_cases.specs.Lists.{all_front, all_behind}
 use Rattle.fixprog.specs.declared.program.Mark.{Mark}
 use Rattle.fixprog.specs.declared.program.Mark.TheVariants as mark
 use Rattle.fixprog.specs.Words.{Name}
@@ -20,7 +21,8 @@ use Rattle.fixprog.specs.Grammar.{Operand, named, given, Operation, copy, negati
 use Rattle.fixprog.specs.Grammar.{product, shift_right, shift_left, Bound, Input, Way, called}
 use Rattle.fixprog.specs.Grammar.{reserved, reserved_out, Step, input, step, output, Program}
 use Rattle.fixprog.specs.Grammar.{outputs, statements}
-use Rattle.fixprog.specs.Formats.{Format, format_of, least, greatest, last_place}
+use Rattle.fixprog.specs.declared.format.Format.{Format}
+use Rattle.fixprog.specs.Formats.{format_of, least, greatest, last_place}
 use Rattle.fixprog.specs.Faults.{program_faults}
 use Rattle.fixprog.specs.First.{Spells}
 use Rattle.fixprog.specs.Execution.{way_text}
@@ -36,7 +38,6 @@ use Rattle.fixprog.proofs.AsciiWords.{IsPlainStep, IsPlainStatement}
 use Rattle.fixprog.proofs.Faultless.{fine, all_fine}
 use Rattle.fixprog.proofs.Common.{all_of}
 use Rattle.fixprog.specs.Narrow.{IsNarrow, narrow}
-use Rattle.script_judge.specs.script_cases.Lists.{all_front, all_behind}
 
 plain : (bs : List ℕ) → Plain bs → IsAscii bs
 plain bs h = IsAscii-from_all bs (all_of (λ b. b < 128) bs h)

@@ -1,10 +1,11 @@
 -- Words that a course has taken begin a program.
-use Rattle.std.proofs.Common.{◌≡◌, ℕ, codes, List, [], ◌∷◌, ◌++◌, map, refl, sym, ap}
-use Rattle.std.proofs.Common.{◌∙◌, append_assoc, append-nil, ◌⊎◌, inl, inr, ⊎_elim}
+use Rattle.std.proofs.Common.{◌≡◌, ℕ, codes, List, [], ◌∷◌, ◌++◌, map, refl, sym, ap, ◌∙◌}
+use Rattle.std.proofs.Common.{append_assoc, append-nil, ◌⊎◌, inl, inr, ⊎_elim}
 use Rattle.std.specs.List.{AllByRecursion}
 use Rattle.script_words.specs.declared.class.Symbol.TheVariants as s
 use Rattle.script_words.specs.Literals.{literal_len, scaled_len}
 use Rattle.script_words.specs.Lex.{front as script_front}
+use Rattle.script_cases.specs.Lists.{all_joined}
 use Rattle.fixprog.specs.declared.program.Mark.TheVariants as mark
 use Rattle.fixprog.specs.declared.program.Joint.TheVariants as joint
 use Rattle.fixprog.specs.declared.program.Shift.TheVariants as shift
@@ -26,7 +27,6 @@ use Rattle.fixprog.specs.Finding.{Course}
 use Rattle.fixprog.proofs.Course.{in_place, may_join, join_whole, one_word_more, whole, stand_words}
 use Rattle.fixprog.proofs.Course.{IsCourse}
 use Rattle.fixprog.proofs.Common.{all_of}
-use Rattle.script_judge.specs.script_cases.Lists.{all_joined}
 
 -- ---- words that stand for any other
 

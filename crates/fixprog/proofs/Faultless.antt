@@ -1,11 +1,11 @@
 -- The formats and shifts of programs in which nothing is wrong.
-use Rattle.std.proofs.Common.{◌≡◌, ℕ, zero, suc, ◌+◌, ◌≤◌, not}
-use Rattle.std.proofs.Common.{List, [], ◌∷◌, ◌++◌, length, map, Some, sym, ap, ◌∙◌, subst}
-use Rattle.std.proofs.Common.{arith, length-append}
+use Rattle.std.proofs.Common.{◌≡◌, ℕ, zero, suc, ◌+◌, ◌≤◌, not, List, [], ◌∷◌, ◌++◌, length, map}
+use Rattle.std.proofs.Common.{Some, sym, ap, ◌∙◌, subst, arith, length-append}
 use Rattle.std.specs.List.{All, AllByRecursion}
 use Rattle.std.proofs.lemmas.List.{length-map}
 use Rattle.std.proofs.lemmas.Simd.{map-map}
 use Rattle.std.specs.Str.Parse.{digits_value}
+use Rattle.script_cases.specs.Lists.{all_front, all_behind}
 use Rattle.fixprog.specs.declared.program.Program.{Program as CodeProgram}
 use Rattle.fixprog.specs.Words.{Name}
 use Rattle.fixprog.specs.Grammar.{Operation, copy, negation, sum, difference, product, shift_right}
@@ -17,7 +17,6 @@ use Rattle.fixprog.specs.Faults.{statement_faults, faults_from, program_faults, 
 use Rattle.fixprog.specs.Printed.{IsShort, IsPrintable, IsInputPrintable}
 use Rattle.fixprog.specs.Views.{input_of, step_of, program_with, program_of}
 use Rattle.fixprog.specs.NoFaults.{none_front, none_behind, not_if, no_if, short_by, light}
-use Rattle.script_judge.specs.script_cases.Lists.{all_front, all_behind}
 
 operation_fine : (o : Operation) (b : Before) (i : ℕ) → operation_faults b i o ≡ [] → IsShort o
 operation_fine (copy a) b i h = tt

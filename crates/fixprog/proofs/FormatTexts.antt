@@ -4,7 +4,8 @@ use Rattle.std.proofs.Common.{◌∷◌, length, take, drop, Some, None, refl, s
 use Rattle.std.proofs.Common.{if◌then◌else◌}
 use Rattle.std.specs.Str.Parse.{digits_value}
 use Rattle.fixprog.specs.Lex.{digits_len}
-use Rattle.fixprog.specs.Formats.{Format, format_of, is_format, within_limits}
+use Rattle.fixprog.specs.declared.format.Format.{Format}
+use Rattle.fixprog.specs.Formats.{format_of, is_format, within_limits}
 
 too_wide : (w p : ℕ) → (w < 61 → ⊥) → (nat_lt 0 w && nat_lt w 61 && nat_lt p 61) ≡ false
 too_wide w p h = let e : nat_lt w 61 ≡ false = grind arith in

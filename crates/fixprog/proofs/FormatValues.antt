@@ -1,18 +1,19 @@
 -- The numbers of the least and the greatest words.
+use lib.Signed.{mag}
+use mir.Syntax.{w32}
+use mir.Val.{to_z, of_z}
 use Rattle.std.proofs.Common.{◌≡◌, ℕ, ℤ, pos, ◌+ℤ◌, ◌*ℤ◌, zero, suc, ◌-◌, ◌*◌, ◌%◌, ◌^◌, ◌<◌, ◌≤◌}
 use Rattle.std.proofs.Common.{true, false, sym, ap, ◌∙◌, arith, lit≤, if◌then◌else◌}
 use Rattle.std.specs.Prelude.{neg_ℤ}
 use Rattle.std.proofs.lemmas.Int.{ints, to_z-of_z}
-use lib.Signed.{mag}
-use mir.Syntax.{w32}
-use mir.Val.{to_z, of_z}
 use Rattle.std.proofs.lemmas.Nat.{pow_pos}
 use Rattle.std.proofs.Math.Nat.{pow-le-pow_right, mod-eq_of_lt}
 use Rattle.fx_model.specs.Fraction.{neg_ℚ, mul-one, ◌*ℚ◌}
 use Rattle.fx_model.specs.Powers.{scaled, one-whole, scaled-shift, scaled-zero}
 use Rattle.fx_model.specs.Grid.{signed, scaled-neg}
 use Rattle.fx_model.specs.Expression.{literal_value}
-use Rattle.fixprog.specs.Formats.{Format, least, word_value}
+use Rattle.fixprog.specs.declared.format.Format.{Format}
+use Rattle.fixprog.specs.Formats.{least, word_value}
 
 pub plain_value : (n : ℕ) (t : ℤ) → literal_value (record { num = n; two = t; ten = pos 0 })
     ≡ scaled (pos n) t

@@ -5,6 +5,7 @@ use Rattle.std.proofs.Common.{length-append, get_or, if◌then◌else◌}
 use Rattle.std.specs.List.{All}
 use Rattle.std.specs.Str.Parse.{digits_value}
 use Rattle.std.proofs.lemmas.List.{map-append, get_or-map}
+use Rattle.script_words.specs.declared.class.Symbol.TheVariants as s
 use Rattle.fixprog.specs.declared.fault.ProgKind.{ProgKind}
 use Rattle.fixprog.specs.declared.fault.ProgKind.TheVariants as kind
 use Rattle.fixprog.specs.declared.program.Mark.{Mark}
@@ -14,7 +15,6 @@ use Rattle.fixprog.specs.declared.program.Joint.{Joint}
 use Rattle.fixprog.specs.declared.program.Joint.TheVariants as joint
 use Rattle.fixprog.specs.declared.program.Shift.{Shift}
 use Rattle.fixprog.specs.declared.program.Shift.TheVariants as shift
-use Rattle.script_words.specs.declared.class.Symbol.TheVariants as s
 use Rattle.fixprog.specs.Words.{Name, Word, sign}
 use Rattle.fixprog.specs.Grammar.{Operand, named, given, operand_words, Digits, Bound, mark_words}
 use Rattle.fixprog.specs.Grammar.{bound_words, Way, called, reserved, reserved_out, way_words}

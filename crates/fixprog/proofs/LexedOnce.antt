@@ -2,9 +2,9 @@
 use Rattle.std.proofs.Common.{◌≡◌, ℕ, ◌+◌, ◌≤◌, false, List, ◌∷◌, length, drop, Option, Some, None}
 use Rattle.std.proofs.Common.{refl, sym, ap, ◌∙◌, subst, arith}
 use Rattle.std.proofs.Math.ListN.{drop_of_length-le}
+use Rattle.script_words.specs.Lex.{blank_len, front as script_front}
 use Rattle.fixprog.specs.declared.token.Kind.{Kind}
 use Rattle.fixprog.specs.declared.token.ProgramToken.{ProgramToken}
-use Rattle.script_words.specs.Lex.{blank_len, front as script_front}
 use Rattle.fixprog.specs.Lex.{front, SameLexing, Lexes, ends, bad, token}
 
 no_front : (text : List ℕ) (n : ℕ) → length text ≤ n → front (drop n text) ≡ None

@@ -6,9 +6,9 @@ use Rattle.std.specs.List.{All}
 use Rattle.std.proofs.lemmas.List.{drop-drop}
 use Rattle.std.proofs.lemmas.List.Elements.{All-nil, All-push}
 use Rattle.std.proofs.Math.ListN.{drop_of_length-le}
+use Rattle.script_words.specs.Lex.{blank_len}
 use Rattle.fixprog.specs.declared.token.Kind.{Kind}
 use Rattle.fixprog.specs.declared.token.ProgramToken.{ProgramToken}
-use Rattle.script_words.specs.Lex.{blank_len}
 use Rattle.fixprog.specs.Lex.{front, IsWithin, Lexes, ends, bad, token}
 
 -- The tokens so far, and those of the rest, are those of the whole text.

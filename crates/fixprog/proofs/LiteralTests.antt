@@ -1,10 +1,10 @@
 -- Texts that aren't read as literals.
 use Rattle.std.proofs.Common.{◌≡◌, ◌↔◌, ℕ, Bool, true, false, List, Result, Err, refl, subst}
+use Rattle.fx_model.specs.declared.Literal.{Literal}
 use Rattle.literal.specs.declared.reading.LiteralFault.{LiteralFault}
 use Rattle.literal.specs.declared.reading.LiteralFault.TheVariants.{BadLiteral, LiteralLimit}
 use Rattle.literal.specs.Spelling.{Spelling, Spells, IsLiteral, IsWithin}
 use Rattle.literal.specs.Normal.{IsPastLimits}
-use Rattle.fx_model.specs.declared.Literal.{Literal}
 use Rattle.script_nodes.specs.Literals.{LiteralsAreTested}
 use Rattle.fixprog.specs.Faults.{is_literal}
 

@@ -1,8 +1,7 @@
 -- A program's script is no longer than a script may be.
-use Rattle.std.proofs.Common.{◌≡◌, ◌<◌, ◌≤◌, ◌+◌, ◌-◌, ◌*◌, ◌^◌, ℕ, ℤ, pos, zero, suc}
-use Rattle.std.proofs.Common.{Bool, true, false, codes, List, [], ◌∷◌, ◌++◌, length, take, drop}
-use Rattle.std.proofs.Common.{map, Option, None, refl, sym, ap, ◌∙◌, arith, length-append}
-use Rattle.std.proofs.Common.{if◌then◌else◌}
+use Rattle.std.proofs.Common.{◌≡◌, ◌<◌, ◌≤◌, ◌+◌, ◌-◌, ◌*◌, ◌^◌, ℕ, ℤ, pos, zero, suc, Bool, true}
+use Rattle.std.proofs.Common.{false, codes, List, [], ◌∷◌, ◌++◌, length, take, drop, map, Option}
+use Rattle.std.proofs.Common.{None, refl, sym, ap, ◌∙◌, arith, length-append, if◌then◌else◌}
 use Rattle.std.specs.Prelude.{neg_ℤ}
 use Rattle.std.specs.List.{AllByRecursion, flat_map}
 use Rattle.std.specs.Fmt.{decimal, signed_decimal}
@@ -11,6 +10,7 @@ use Rattle.std.proofs.lemmas.List.{drop-drop, length-map}
 use Rattle.std.proofs.lemmas.Fmt.{length-decimal-le_wide}
 use Rattle.script_words.specs.declared.class.Symbol.TheVariants as s
 use Rattle.script_words.specs.Lex.{blank_len}
+use Rattle.script_cases.specs.Lists.{all_front, all_behind}
 use Rattle.fixprog.specs.declared.format.Format.{Format}
 use Rattle.fixprog.specs.declared.program.Mark.{Mark}
 use Rattle.fixprog.specs.declared.program.Mark.TheVariants as mark
@@ -37,7 +37,6 @@ use Rattle.fixprog.proofs.ProgramCourse.{words-append}
 use Rattle.fixprog.proofs.Faultless.{fine, all_fine, few}
 use Rattle.fixprog.proofs.Sound.{spelled_faultless}
 use Rattle.fixprog.specs.Narrow.{IsNarrow, narrow, power_below}
-use Rattle.script_judge.specs.script_cases.Lists.{all_front, all_behind}
 
 -- ---- texts of words
 

@@ -4,9 +4,9 @@ use Rattle.std.proofs.Common.{Some, None, refl, ap, ◌∙◌, append_assoc, app
 use Rattle.std.proofs.Math.Bool.{Bool-set}
 use Rattle.std.specs.List.{list_all}
 use Rattle.std.specs.Char.{is_ascii_digit}
-use Rattle.script_judge.specs.Fault.{is_reserved}
 use Rattle.script_words.specs.declared.class.Symbol.{Symbol}
 use Rattle.script_words.specs.declared.class.Symbol.TheVariants as s
+use Rattle.script_judge.specs.Fault.{is_reserved}
 use Rattle.fixprog.specs.declared.program.Joint.{Joint}
 use Rattle.fixprog.specs.declared.program.Joint.TheVariants as joint
 use Rattle.fixprog.specs.declared.program.Shift.{Shift}

@@ -5,6 +5,7 @@ use Rattle.std.proofs.Common.{ap, ◌∙◌, subst, arith, if◌then◌else◌}
 use Rattle.std.proofs.lemmas.Str.{utf8_valid_len-IsValidUpTo}
 use Rattle.std.proofs.lemmas.Bool.{cases_lt}
 use Rattle.std.proofs.Math.Seq.{take-add}
+use Rattle.script_words.specs.Utf8.{no_both}
 use Rattle.fixprog.specs.declared.fault.ProgKind.{ProgKind}
 use Rattle.fixprog.specs.declared.fault.ProgKind.TheVariants as kind
 use Rattle.fixprog.specs.declared.fault.ProgFault.{ProgFault}
@@ -21,7 +22,6 @@ use Rattle.fixprog.proofs.Completed.{begins_some}
 use Rattle.fixprog.proofs.ProgramCourse.{program_course}
 use Rattle.fixprog.proofs.Decided.{none_begins}
 use Rattle.fixprog.proofs.Common.{one_value}
-use Rattle.script_words.specs.Utf8.{no_both}
 
 -- ---- readings
 

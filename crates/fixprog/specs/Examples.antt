@@ -1,9 +1,9 @@
 -- Worked rows: a program's script, byte by byte, and its runs.
 use Rattle.std.specs.Prelude.{◌≡◌, ℕ, codes, List, [], ◌∷◌, ◌++◌, false, Some, refl}
 use Rattle.std.specs.Fmt.{digits}
+use Rattle.script_words.specs.Lex.{front as script_front}
 use Rattle.fixprog.specs.declared.program.Mark.TheVariants as mark
 use Rattle.fixprog.specs.declared.token.Kind.TheVariants as kind
-use Rattle.script_words.specs.Lex.{front as script_front}
 use Rattle.fixprog.specs.Lex.{front}
 use Rattle.fixprog.specs.Formats.{format_of}
 use Rattle.fixprog.specs.Grammar.{named, copy, product, shift_right, called, Input, Step, Program}

@@ -18,7 +18,8 @@ use Rattle.fixprog.specs.Grammar.{Operand, named, given, Digits, Operation, copy
 use Rattle.fixprog.specs.Grammar.{difference, product, shift_right, shift_left, Bound, mark_words}
 use Rattle.fixprog.specs.Grammar.{bound_words, Input, Way, called, Step, Statement, input, step}
 use Rattle.fixprog.specs.Grammar.{output, statement_words, Program, statements}
-use Rattle.fixprog.specs.Formats.{Format, format_of, is_format, is_within}
+use Rattle.fixprog.specs.declared.format.Format.{Format}
+use Rattle.fixprog.specs.Formats.{format_of, is_format, is_within}
 
 -- The word that is refused, by its number, and the last word that it takes to tell.
 pub record Fault : Type 0 where

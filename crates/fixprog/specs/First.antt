@@ -3,13 +3,13 @@ use Rattle.std.specs.Prelude.{◌≡◌, ℕ, ◌+◌, ◌<◌, ◌≤◌, ◌^�
 use Rattle.std.specs.Prelude.{◌++◌, length, take, map, get_or, Option, Some, None, Bool, false}
 use Rattle.std.specs.List.{Contains, AllByRecursion}
 use Rattle.std.specs.Str.{IsUtf8, IsValidUpTo}
+use Rattle.script_words.specs.declared.lex.TokenKind.{TokenKind}
+use Rattle.script_words.specs.declared.lex.TokenKind.TheVariants as script
+use Rattle.script_words.specs.Lex.{front as script_front}
 use Rattle.fixprog.specs.declared.fault.ProgKind.{ProgKind}
 use Rattle.fixprog.specs.declared.fault.ProgKind.TheVariants as kind
 use Rattle.fixprog.specs.declared.fault.ProgFault.{ProgFault}
 use Rattle.fixprog.specs.declared.token.ProgramToken.{ProgramToken}
-use Rattle.script_words.specs.declared.lex.TokenKind.{TokenKind}
-use Rattle.script_words.specs.declared.lex.TokenKind.TheVariants as script
-use Rattle.script_words.specs.Lex.{front as script_front}
 use Rattle.fixprog.specs.Words.{Word, name, literal}
 use Rattle.fixprog.specs.Lex.{Lexes, words_of, IsToken}
 use Rattle.fixprog.specs.Grammar.{Program, program_words}

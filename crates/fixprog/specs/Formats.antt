@@ -6,7 +6,7 @@ use Rattle.fx_model.specs.Fraction.{Fraction, le_ℚ}
 use Rattle.fx_model.specs.Powers.{scaled}
 -- `sW.F` is signed, `uW.F` isn't; W is the width and F the number of places behind the binary
 -- point.
-pub use Rattle.fixprog.specs.declared.format.Format.{Format}
+use Rattle.fixprog.specs.declared.format.Format.{Format}
 use Rattle.fixprog.specs.Lex.{digits_len}
 
 -- the format of a text that is one; its numbers may have leading zeros

@@ -9,7 +9,8 @@ use Rattle.fixprog.specs.Words.{Name}
 use Rattle.fixprog.specs.Grammar.{Operand, named, given, Operation, copy, negation, sum, difference}
 use Rattle.fixprog.specs.Grammar.{product, shift_right, shift_left, Bound, Input, Step, Program}
 use Rattle.fixprog.specs.Grammar.{outputs}
-use Rattle.fixprog.specs.Formats.{Format, format_of, least, greatest, last_place}
+use Rattle.fixprog.specs.declared.format.Format.{Format}
+use Rattle.fixprog.specs.Formats.{format_of, least, greatest, last_place}
 use Rattle.fixprog.specs.Execution.{way_text}
 
 -- A text of a script, by its bytes.

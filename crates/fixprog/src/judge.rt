@@ -1,14 +1,14 @@
 //! The faults that a word tells.
 
-ghost use Rattle.std.specs.Prelude.{◌≡◌, ◌<◌, ◌^◌, ◌+◌, ◌++◌, [], ◌∷◌, true, false, nat_lt};
-ghost use Rattle.std.specs.Prelude.{OnOk, IfSome, MatchOption, if◌then◌else◌};
+ghost use Rattle.std.specs.Prelude.{◌≡◌, ◌<◌, ◌^◌, ◌+◌, ◌++◌, [], ◌∷◌, true, false, nat_lt, OnOk};
+ghost use Rattle.std.specs.Prelude.{IfSome, MatchOption, if◌then◌else◌};
 ghost use Rattle.std.specs.Option.{option_map, option_copied};
 ghost use Rattle.std.specs.List.{list_any};
 ghost use Rattle.std.specs.Str.{bytes_eq};
 ghost use Rattle.literal.specs.Normal.{IsNormal};
-ghost use Rattle.script_nodes.specs.Literals as literals;
 ghost use Rattle.literal_order.specs.Values.{written_value, IsWritten};
 ghost use Rattle.script_words.specs.Named.{is_direction as is_direction_word};
+ghost use Rattle.script_nodes.specs.Literals as literals;
 ghost use Rattle.fixprog.specs.Formats as formats;
 ghost use Rattle.fixprog.specs.First as first_spec;
 ghost use Rattle.fixprog.specs.Faults as faults;

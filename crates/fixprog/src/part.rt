@@ -2,18 +2,16 @@
 
 ghost use Rattle.std.specs.Prelude.{◌≡◌, Option};
 ghost use Rattle.std.specs.Option.{option_map, option_copied};
+ghost use Rattle.std.specs.List.{list_all};
+ghost use Rattle.std.specs.Char.{is_ascii_digit};
+ghost use Rattle.script_judge.specs.Fault as fault;
 ghost use Rattle.fixprog.specs.Standing as spec;
 ghost use Rattle.fixprog.specs.Views.{word_of, operand_of, operation_of, part_of, statement_of};
 ghost use Rattle.fixprog.specs.Views.{way_of, head_of, begun_of, digits_seen};
-ghost use Rattle.std.specs.List.{list_all};
-ghost use Rattle.std.specs.Char.{is_ascii_digit};
 ghost use Rattle.fixprog.specs.Views as views;
 ghost use Rattle.fixprog.specs.Grammar as grammar;
-ghost use Rattle.script_judge.specs.Fault as fault;
 
-use crate::program::{
-    Bound, Digits, Input, Joint, Mark, Operand, Operation, Shift, Statement, Step, Way,
-};
+use crate::program::{Bound, Digits, Input, Joint, Mark, Operand, Operation, Shift, Statement, Step, Way};
 use crate::word::Word;
 use script_words::class::Symbol;
 

@@ -1,12 +1,11 @@
 //! Programs to scripts.
 
-ghost use Rattle.std.specs.Prelude.{◌≡◌, Some, None, Err, IfOk, IfSome};
+ghost use Rattle.std.specs.Prelude.{◌≡◌, Some, None, Err, IfOk, IfSome, Ok};
 ghost use Rattle.fixprog.specs.Grammar as grammar;
 ghost use Rattle.fixprog.specs.First.{IsFirstFault, IsReadable, Spells, FirstsAreUnique};
 ghost use Rattle.fixprog.specs.First.{SpellsOnce, SpellsAll, SpelledAreFaultless, WordsAreAlone};
 ghost use Rattle.fixprog.specs.Answer.{Turns, ScriptsAreText, ScriptsAreShort};
 ghost use Rattle.fixprog.specs.Read.{IsRead};
-ghost use Rattle.std.specs.Prelude.{Ok};
 
 use crate::fault::{ProgFault, ProgKind, ProgStop};
 use crate::lex::lex;

@@ -1,7 +1,7 @@
 -- What a call of a folder or of a sink may do. A count of faults never falls, and stands still at
 -- 2^64 - 1.
-use Rattle.std.specs.Prelude.{◌≡◌, ◌<◌, ◌≤◌, ◌+◌, ◌-◌, ◌^◌, ℕ, List, [], length, take, drop, min}
-use Rattle.std.specs.Prelude.{⊤, Option, Some, None, Result, Ok, Err, MatchResult, OnErr}
+use Rattle.std.specs.Prelude.{◌≡◌, ◌<◌, ◌≤◌, ◌+◌, ◌-◌, ◌^◌, ℕ, List, [], length, take, drop, min, ⊤}
+use Rattle.std.specs.Prelude.{Option, Some, None, Result, Ok, Err, MatchResult, OnErr}
 use Rattle.std.proofs.Common.{arith}
 
 -- a count after one more; it stands still at 2^64 - 1

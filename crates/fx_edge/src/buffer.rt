@@ -1,7 +1,7 @@
 // Bytes with room for so many, for which memory is found when they are made.
 ghost use Rattle.std.specs.Prelude.{◌≡◌, ◌≤◌, ◌↔◌, length, min, IfOk, IfSome, IsNone};
-ghost use Rattle.fx_edge.specs.Held.{new_held, fitting, IsFullFor, with_front, emptied};
-ghost use Rattle.fx_edge.specs.Held.{readable, filled};
+ghost use Rattle.fx_edge.specs.Held.{new_held, fitting, IsFullFor, with_front, emptied, readable};
+ghost use Rattle.fx_edge.specs.Held.{filled};
 
 use std::alloc::AllocError;
 use std::marker::Model;

@@ -4,8 +4,8 @@ ghost use Rattle.std.specs.Prelude.{◌≡◌, ◌↔◌, ℕ, List, Some, lengt
 ghost use Rattle.std.specs.Prelude.{IfOk, IfSome};
 ghost use Rattle.std.specs.Option.{option_map};
 ghost use Rattle.fx_edge.specs.Held.{emptied, readable, filled};
-ghost use Rattle.fx_edge.specs.Files.{file_at, last_file, bytes_there, bytes_or_none};
-ghost use Rattle.fx_edge.specs.Files.{fitting_into, CannotAdd, grown, SameElsewhere};
+ghost use Rattle.fx_edge.specs.Files.{file_at, last_file, bytes_there, bytes_or_none, fitting_into};
+ghost use Rattle.fx_edge.specs.Files.{CannotAdd, grown, SameElsewhere};
 
 use crate::buffer::Buffer;
 use std::alloc::{AllocError, Global};

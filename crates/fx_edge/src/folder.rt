@@ -1,13 +1,12 @@
 // Folders in memory.
-ghost use Rattle.std.specs.Prelude.{◌≡◌, ◌≤◌, ◌<◌, ◌⊎◌, ◌↔◌, ℕ, List, Some, length, min};
-ghost use Rattle.std.specs.Prelude.{IfOk, IfSome, IsErr, IsOk, IsOkAnd, IsNone, IsSome, OnOk};
-ghost use Rattle.std.specs.Prelude.{OnErr};
+ghost use Rattle.std.specs.Prelude.{◌≡◌, ◌≤◌, ◌<◌, ◌⊎◌, ◌↔◌, ℕ, List, Some, length, min, IfOk};
+ghost use Rattle.std.specs.Prelude.{IfSome, IsErr, IsOk, IsOkAnd, IsNone, IsSome, OnOk, OnErr};
 ghost use Rattle.std.specs.Option.{option_map};
 ghost use Rattle.fx_edge.specs.Outside.{HasCause, ReadsFrom, count_after};
 ghost use Rattle.fx_edge.specs.Calls.{FailsNext};
 ghost use Rattle.fx_edge.specs.Held.{emptied, readable, filled};
-ghost use Rattle.fx_edge.specs.Files.{last_file, bytes_there, bytes_or_none};
-ghost use Rattle.fx_edge.specs.Files.{fitting_into, CannotAdd, grown, SameElsewhere};
+ghost use Rattle.fx_edge.specs.Files.{last_file, bytes_there, bytes_or_none, fitting_into};
+ghost use Rattle.fx_edge.specs.Files.{CannotAdd, grown, SameElsewhere};
 
 use crate::calls::Calls;
 use crate::files::Files;

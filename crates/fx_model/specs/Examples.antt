@@ -1,8 +1,8 @@
 -- Worked rows: arithmetic on fractions, and one rounding to the grid.
+use mathlib.Core.Quot.{sound}
 use Rattle.std.specs.Prelude.{◌≡◌, ℕ, ℤ, pos, negsuc, true, refl}
 use Rattle.std.proofs.Common.{suc, ◌<◌, arith, lit<, lit≤, sym, ap, ◌∙◌, subst, inl}
 use Rattle.std.proofs.lemmas.Int.{ints}
-use mathlib.Core.Quot.{sound}
 use Rattle.fx_model.specs.Fraction.{Ratio, Same, of_ratio, ◌+ℚ◌, ◌*ℚ◌, ◌/ℚ◌, ◌<ℚ◌, one_ℚ, add_ratio}
 use Rattle.fx_model.specs.Fraction.{mul_ratio, inverse_ratio, add-mk, mul-mk, inverse-mk, le-mk}
 use Rattle.fx_model.specs.Powers.{two_to, scaled, whole_ratio, two_to_ratio, whole-mk, two_to-mk}

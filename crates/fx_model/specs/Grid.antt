@@ -1,11 +1,10 @@
 -- The grid of numbers that bounds are written with, and rounding to it.
-use Rattle.std.specs.Prelude.{◌≡◌, ℕ, ℤ, pos, negsuc, ◌≤ℤ◌, ◌<ℤ◌}
-use Rattle.std.specs.Prelude.{ℕ, ◌+ℤ◌, ◌*ℤ◌, Bool, true, false}
-use Rattle.std.specs.Int.RustNames.{int_lt, unsigned_abs}
 use mathlib.Core.Bool.{xor}
+use lib.IntN.{neg_ℤ}
+use Rattle.std.specs.Prelude.{◌≡◌, ℕ, ℤ, pos, negsuc, ◌≤ℤ◌, ◌<ℤ◌, ◌+ℤ◌, ◌*ℤ◌, Bool, true, false}
+use Rattle.std.specs.Int.RustNames.{int_lt, unsigned_abs}
 use Rattle.std.proofs.Common.{arith, sym, subst, ap, ◌∙◌, refl}
 use Rattle.std.proofs.lemmas.Int.{ints}
-use lib.IntN.{neg_ℤ}
 use Rattle.fx_model.specs.Fraction.{Fraction, ◌*ℚ◌, ◌≤ℚ◌, le_ℚ, le_antisymm, neg_ℚ, neg-le, neg-neg}
 use Rattle.fx_model.specs.Fraction.{neg-mul, mul_comm, mul_assoc}
 use Rattle.fx_model.specs.Powers.{scaled, two_to, whole, whole-neg, whole-mul, two_to-add}

@@ -1,11 +1,11 @@
 -- Whole numbers and powers of two as fractions.
+use borrow.Author.Differences.{up, down, sum_is_lem, product_is, neg_is}
+use lib.IntN.{neg_ℤ}
+use mathlib.Core.Quot.{sound}
 use Rattle.std.specs.Prelude.{◌≡◌, ℕ, ℤ, pos, ◌+ℤ◌, ◌*ℤ◌, ◌≤ℤ◌, ◌<ℤ◌, ◌*◌, ◌+◌, ◌^◌, refl}
 use Rattle.std.proofs.Common.{arith, sym, ap, ◌∙◌, lit<, subst}
 use Rattle.std.proofs.lemmas.Nat.{pow_pos, pow-add}
 use Rattle.std.proofs.lemmas.Int.{ints, by_lt_z}
-use borrow.Author.Differences.{up, down, sum_is_lem, product_is, neg_is}
-use lib.IntN.{neg_ℤ}
-use mathlib.Core.Quot.{sound}
 use Rattle.fx_model.specs.Fraction.{Ratio, Same, Fraction, ◌+ℚ◌, ◌*ℚ◌, neg_ℚ, ◌≤ℚ◌, of_ratio}
 use Rattle.fx_model.specs.Fraction.{zero_ℚ, one_ℚ, le_in, le_out, add_ratio, mul_ratio, neg_ratio}
 use Rattle.fx_model.specs.Fraction.{add-mk, mul-mk, neg-mk, ◌<ℚ◌, lt_by, lt_not, lt_le, mul_comm}

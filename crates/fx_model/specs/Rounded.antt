@@ -1,10 +1,9 @@
 -- Rounding to the multiples of a power of two, in eleven directions (Gappa User's Guide, "Rounding
 -- directions").
 pub mod Examples
-use Rattle.std.specs.Prelude.{ℤ, negsuc, ◌%◌, ◌==◌, Bool}
-use Rattle.std.specs.Prelude.{if◌then◌else◌}
-use Rattle.std.specs.Int.RustNames.{unsigned_abs}
 use lib.IntN.{neg_ℤ}
+use Rattle.std.specs.Prelude.{ℤ, negsuc, ◌%◌, ◌==◌, Bool, if◌then◌else◌}
+use Rattle.std.specs.Int.RustNames.{unsigned_abs}
 use Rattle.fx_model.specs.Fraction.{Fraction, ◌+ℚ◌, ◌-ℚ◌, ◌*ℚ◌, neg_ℚ, zero_ℚ, le_ℚ, floor_ℚ}
 use Rattle.fx_model.specs.Powers.{two_to, whole, scaled}
 use Rattle.fx_model.specs.declared.Direction.{Direction}

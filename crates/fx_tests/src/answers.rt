@@ -1,7 +1,7 @@
 // Scripts whose goals plain enclosures prove, and scripts with a goal that they don't. Expected
 // lines were worked out by hand.
 use crate::runs::texts_end;
-use fx_top::Status;
+use command_runs::Status;
 use std::test::Fail;
 
 const EXPRESSIONS: [(&str, &str); 17] = [

@@ -1,7 +1,7 @@
 // Scripts whose hypotheses have several cases. Expected lines, and certificates, are those of a
 // plain program of the definitions.
 use crate::runs::{run_ends, sound, words_end};
-use fx_top::Status;
+use command_runs::Status;
 use std::test::Fail;
 
 const PROVE: &[&str] = &["prove", "a"];

@@ -1,7 +1,7 @@
 // Certificates that are checked: one that is accepted, another script's, damaged ones. The
 // certificate and its faults were worked out by hand.
 use crate::runs::{Outside, run_ends, run_on, sound};
-use fx_top::Status;
+use command_runs::Status;
 use std::alloc::{AllocError, Global};
 use std::test::Fail;
 

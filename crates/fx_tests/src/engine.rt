@@ -1,7 +1,7 @@
 // Scripts for the whole engine. Expected lines were worked out by hand, or by a plain program of
 // the definitions.
 use crate::runs::{texts_end, words_end};
-use fx_top::Status;
+use command_runs::Status;
 use std::test::Fail;
 
 const BOX: &str = "unproved: goal 1 at the whole box\n";

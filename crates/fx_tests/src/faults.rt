@@ -2,7 +2,7 @@
 // without room.
 use crate::runs::{Run, ends, ends_on, room_ends};
 use crate::words::USAGE;
-use fx_top::Status;
+use command_runs::Status;
 use std::test::Fail;
 
 const PRODUCT: &[u8] = b"{ x in [1,2] /\\ y in [3,5] -> x * y in ? }";

@@ -1,6 +1,6 @@
 // Texts at each limit and one past it. Expected lines were worked out by hand.
 use crate::runs::{text_of, words_end};
-use fx_top::Status;
+use command_runs::Status;
 use std::alloc::{AllocError, Global};
 use std::process::Abort;
 use std::sync::Wait;

@@ -1,6 +1,6 @@
 // Literals at their limits and one past them. Expected lines were worked out by hand.
 use crate::runs::texts_end;
-use fx_top::Status;
+use command_runs::Status;
 use std::test::Fail;
 
 const ZERO: &str = "0 in [0, 0]\n";

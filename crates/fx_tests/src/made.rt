@@ -1,6 +1,6 @@
 // A script that the program makes has one answer.
 use crate::runs::words_end;
-use fx_top::Status;
+use command_runs::Status;
 use std::test::Fail;
 
 // As another program answers, a plain reading of the definitions.

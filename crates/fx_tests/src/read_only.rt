@@ -1,7 +1,7 @@
 // Commands that only read: `at` and `batch`. Expected lines were worked out by hand.
 use crate::runs::{Outside, run_ends, run_on, sound};
 use crate::words::USAGE;
-use fx_top::Status;
+use command_runs::Status;
 use std::alloc::Global;
 use std::process::Abort;
 use std::sync::Wait;

@@ -1,6 +1,6 @@
 // Texts that are no script, by the kind of their refusal. Expected lines were worked out by hand.
 use crate::runs::{texts_end, words_end};
-use fx_top::Status;
+use command_runs::Status;
 use std::test::Fail;
 
 const NO_TEXTS: [(&[u8], &str); 4] = [

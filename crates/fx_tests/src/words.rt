@@ -1,6 +1,6 @@
 // Words of the command line. Expected lines were worked out by hand.
 use crate::runs::words_end;
-use fx_top::Status;
+use command_runs::Status;
 use std::test::Fail;
 
 const PRODUCT: &[u8] = b"{ x in [1,2] /\\ y in [3,5] -> x * y in ? }\n";

@@ -3,7 +3,7 @@
 use crate::made_files::{PRODUCT, SECOND};
 use crate::runs::{Ended, Outside, run_ends, run_on, sound};
 use crate::words::USAGE;
-use fx_top::Status;
+use command_runs::Status;
 use std::alloc::Global;
 use std::process::Abort;
 use std::sync::Wait;

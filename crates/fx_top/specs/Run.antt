@@ -1,20 +1,20 @@
 -- What a run of each command is.
 use Rattle.std.specs.Prelude.{◌≡◌, Option, Some, None}
-use Rattle.at_command.specs.Command.{IsAtRun}
-use Rattle.batch_command.specs.Command.{IsBatchRun}
-use Rattle.trim_command.specs.check_command.Command.{IsCheckRun}
 use Rattle.command_line.specs.Usage.{usage_line}
 use Rattle.command_runs.specs.Fates.{Fate, IsRunOf, MayWrite}
 use Rattle.command_runs.specs.Fates.Left.{Kept}
 use Rattle.command_runs.specs.Runs.{Run}
 use Rattle.command_runs.specs.declared.status.Status.TheVariants as status
-use Rattle.fix_command.specs.Command.{IsFixRun}
-use Rattle.fx_top.specs.Commands.{Command}
-use Rattle.fx_top.specs.Commands.Command.{Prove, Check, Gen, Upgrade, Fix, At, Trim, Batch}
 use Rattle.gen_command.specs.Command.{IsGenRun}
 use Rattle.prove_command.specs.Command.{IsProveRun}
-use Rattle.trim_command.specs.Command.{IsTrimRun}
+use Rattle.check_command.specs.Command.{IsCheckRun}
 use Rattle.upgrade_command.specs.Command.{IsUpgradeRun}
+use Rattle.trim_command.specs.Command.{IsTrimRun}
+use Rattle.fix_command.specs.Command.{IsFixRun}
+use Rattle.at_command.specs.Command.{IsAtRun}
+use Rattle.batch_command.specs.Command.{IsBatchRun}
+use Rattle.fx_top.specs.Commands.{Command}
+use Rattle.fx_top.specs.Commands.Command.{Prove, Check, Gen, Upgrade, Fix, At, Trim, Batch}
 
 -- words that ask for nothing have the usage line
 abbrev pub UsageFate : Fate

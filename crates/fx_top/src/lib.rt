@@ -5,5 +5,4 @@
 mod run;
 mod wanted;
 
-pub use command_runs::Status;
 pub use run::fx_run;

@@ -16,7 +16,8 @@ use prove_command::run_prove;
 use std::alloc::Global;
 use std::sync::Wait;
 use std::thread::Threads;
-use trim_command::{run_check, run_trim};
+use check_command::run_check;
+use trim_command::run_trim;
 use upgrade_command::run_upgrade;
 
 // Runs a command.

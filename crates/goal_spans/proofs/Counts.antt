@@ -2,13 +2,15 @@
 use Rattle.std.specs.Prelude.{◌≡◌, List, [], ◌∷◌, ◌++◌, length, refl}
 use Rattle.std.proofs.Common.{ap, sym, ◌∙◌, length-append, arith}
 use Rattle.std.proofs.lemmas.List.{length-map}
-use Rattle.script_shape.specs.script_words.declared.class.Number.TheVariants as kind
-use Rattle.script_shape.specs.script_words.declared.class.Symbol.TheVariants as s
-use Rattle.script_shape.specs.script_words.Words.{Word, sign}
+use Rattle.script_words.specs.declared.class.Number.TheVariants as kind
+use Rattle.script_words.specs.declared.class.Symbol.TheVariants as s
+use Rattle.script_words.specs.Words.{Word, sign}
 use Rattle.script_shape.specs.declared.due.Due.TheVariants as d
-use Rattle.script_shape.specs.Tree.{unsigned, Expr, expr_words, at_most, affirmed, Formula, single}
-use Rattle.script_shape.specs.Tree.{formula_words, no_hint, Definition, definition_words, Script}
-use Rattle.script_shape.specs.Tree.{formula, define, script_words}
+use Rattle.script_shape.specs.Expressions.{unsigned, Expr, expr_words}
+use Rattle.script_shape.specs.Propositions.{at_most, affirmed, Formula, single, formula_words}
+use Rattle.script_shape.specs.Hints.{no_hint}
+use Rattle.script_shape.specs.Tree.{Definition, definition_words, Script, formula, define}
+use Rattle.script_shape.specs.Tree.{script_words}
 use Rattle.script_shape.specs.Roles.{Leaf, at, expr_leaves, formula_leaves, definition_leaves}
 use Rattle.script_shape.specs.Roles.{script_leaves, LeavesSpell}
 

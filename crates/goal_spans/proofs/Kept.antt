@@ -1,15 +1,15 @@
 -- Words of a script that the reading only counts.
 use Rattle.std.specs.Prelude.{◌≡◌, ℕ, suc, ◌+◌, List, [], ◌∷◌, ◌++◌, length, refl}
 use Rattle.std.proofs.Common.{ap, ◌∙◌, arith}
-use Rattle.script_shape.specs.script_words.declared.class.Symbol.TheVariants as s
-use Rattle.script_shape.specs.script_words.declared.class.Spelled.TheVariants as spelled
-use Rattle.script_shape.specs.script_words.Words.{Word, sign}
+use Rattle.script_words.specs.declared.class.Symbol.TheVariants as s
+use Rattle.script_words.specs.declared.class.Spelled.TheVariants as spelled
+use Rattle.script_words.specs.Words.{Word, sign}
 use Rattle.script_shape.specs.declared.due.Due.{Due}
 use Rattle.script_shape.specs.declared.due.Due.TheVariants as d
-use Rattle.script_shape.specs.Tree.{AnyName, plain, operator, Special, Whole, Bound, Expr, Range}
-use Rattle.script_shape.specs.Tree.{asked, between, multiple, How, exactly, rounded_by}
-use Rattle.script_shape.specs.Tree.{rounded_apart, rounded_joined, Definition, names_operator}
-use Rattle.script_shape.specs.Tree.{names_value}
+use Rattle.script_shape.specs.Expressions.{AnyName, plain, operator, Special, Whole, Bound, Expr}
+use Rattle.script_shape.specs.Propositions.{Range, asked, between, multiple}
+use Rattle.script_shape.specs.Tree.{How, exactly, rounded_by, rounded_apart, rounded_joined}
+use Rattle.script_shape.specs.Tree.{Definition, names_operator, names_value}
 use Rattle.script_shape.specs.Roles.{Leaf, at, name_leaves, special_leaves, whole_leaves}
 use Rattle.script_shape.specs.Roles.{bound_leaves, operator_leaves, expr_leaves, range_leaves}
 use Rattle.script_shape.specs.Roles.{prop_leaves, how_leaves, definition_leaves}

@@ -1,12 +1,14 @@
 -- The words of a script are read as the spans of its tree.
 use Rattle.std.specs.Prelude.{◌≡◌, ℕ, suc, ◌+◌, List, [], ◌∷◌, ◌++◌, length, refl}
 use Rattle.std.proofs.Common.{ap, sym, ◌∙◌, append_assoc, append-nil, length-append, arith}
-use Rattle.script_shape.specs.script_words.declared.class.Symbol.TheVariants as s
-use Rattle.script_shape.specs.script_words.Words.{sign}
+use Rattle.script_words.specs.declared.class.Symbol.TheVariants as s
+use Rattle.script_words.specs.Words.{sign}
 use Rattle.script_shape.specs.declared.due.Due.TheVariants as d
-use Rattle.script_shape.specs.Tree.{Expr, expr_words, Prop, lies_in, relative_in, at_most, at_least}
-use Rattle.script_shape.specs.Tree.{multiple, Stated, affirmed, denied, Formula, single, and, or}
-use Rattle.script_shape.specs.Tree.{implies, formula_words, Script, formula, define}
+use Rattle.script_shape.specs.Expressions.{Expr, expr_words}
+use Rattle.script_shape.specs.Propositions.{Prop, lies_in, relative_in, at_most, at_least, multiple}
+use Rattle.script_shape.specs.Propositions.{Stated, affirmed, denied, Formula, single, and, or}
+use Rattle.script_shape.specs.Propositions.{implies, formula_words}
+use Rattle.script_shape.specs.Tree.{Script, formula, define}
 use Rattle.script_shape.specs.Roles.{Leaf, at, bound_leaves, expr_leaves, range_leaves, prop_leaves}
 use Rattle.script_shape.specs.Roles.{stated_leaves, formula_leaves, hints_leaves, definition_leaves}
 use Rattle.script_shape.specs.Roles.{script_leaves, LeavesSpell}

@@ -1,12 +1,13 @@
 -- Spans of small scripts, counted by hand.
 use Rattle.std.specs.Prelude.{◌≡◌, ℕ, codes, List, [], ◌∷◌, refl}
-use Rattle.script_shape.specs.script_words.declared.class.Spelled.TheVariants.{Plain}
-use Rattle.script_shape.specs.script_words.declared.class.Number.TheVariants as kind
-use Rattle.script_shape.specs.Tree.{plain, free, digits, natural, Bound, unsigned, Expr, term, sum}
-use Rattle.script_shape.specs.Tree.{factor, atom, Atom, variable, asked, between, lies_in}
-use Rattle.script_shape.specs.Tree.{relative_in, at_most, at_least, multiple, affirmed, denied}
-use Rattle.script_shape.specs.Tree.{single, and, or, implies, nonzero, last_need, provided, no_hint}
-use Rattle.script_shape.specs.Tree.{hint, rewrite, exactly, names_value, Script, formula, define}
+use Rattle.script_words.specs.declared.class.Spelled.TheVariants.{Plain}
+use Rattle.script_words.specs.declared.class.Number.TheVariants as kind
+use Rattle.script_shape.specs.Expressions.{plain, free, digits, natural, Bound, unsigned, Expr}
+use Rattle.script_shape.specs.Expressions.{term, sum, factor, atom, Atom, variable}
+use Rattle.script_shape.specs.Propositions.{asked, between, lies_in, relative_in, at_most, at_least}
+use Rattle.script_shape.specs.Propositions.{multiple, affirmed, denied, single, and, or, implies}
+use Rattle.script_shape.specs.Hints.{nonzero, last_need, provided, no_hint, hint, rewrite}
+use Rattle.script_shape.specs.Tree.{exactly, names_value, Script, formula, define}
 use Rattle.script_shape.specs.Roles.{script_leaves}
 use Rattle.goal_spans.specs.declared.span.Span.{Span}
 use Rattle.goal_spans.specs.Spans.{goal_spans}

@@ -1,7 +1,7 @@
 -- The spans of a script's goals, word by word from the left.
 use Rattle.std.specs.Prelude.{◌≡◌, ℕ, ◌+◌, List, [], ◌∷◌, ◌++◌}
-use Rattle.script_shape.specs.script_words.declared.class.Symbol.TheVariants as s
-use Rattle.script_shape.specs.script_words.Words.{Word, sign}
+use Rattle.script_words.specs.declared.class.Symbol.TheVariants as s
+use Rattle.script_words.specs.Words.{Word, sign}
 use Rattle.script_shape.specs.declared.due.Due.{Due}
 use Rattle.script_shape.specs.declared.due.Due.TheVariants as d
 use Rattle.script_shape.specs.Tree.{Script}

@@ -1,10 +1,11 @@
 -- Which words of a script are the expression part of each goal, by recursion on its tree. Words are
 -- counted from 0.
 use Rattle.std.specs.Prelude.{ℕ, ◌+◌, List, [], ◌∷◌, ◌++◌, length}
-use Rattle.script_shape.specs.Tree.{expr_words, Prop, lies_in, relative_in, at_most, at_least}
-use Rattle.script_shape.specs.Tree.{multiple, Stated, affirmed, denied, Formula, single, and, or}
-use Rattle.script_shape.specs.Tree.{implies, formula_words, definition_words, Script, formula}
-use Rattle.script_shape.specs.Tree.{define}
+use Rattle.script_shape.specs.Expressions.{expr_words}
+use Rattle.script_shape.specs.Propositions.{Prop, lies_in, relative_in, at_most, at_least, multiple}
+use Rattle.script_shape.specs.Propositions.{Stated, affirmed, denied, Formula, single, and, or}
+use Rattle.script_shape.specs.Propositions.{implies, formula_words}
+use Rattle.script_shape.specs.Tree.{definition_words, Script, formula, define}
 use Rattle.goal_spans.specs.declared.span.Span.{Span}
 
 -- How many words stand before a proposition's `in`, `<=` or `>=`: those of its expression, or both

@@ -1,14 +1,16 @@
 //! The spans of goals, read word by word.
 
 ghost use Rattle.std.specs.Prelude.{◌≡◌, ◌+◌, ◌<◌, ◌^◌, IfOk, OnOk, OnErr};
-ghost use Rattle.script_shape.specs.script_words.Named.{word_of};
-ghost use Rattle.script_shape.specs.script_words.Kept.{words_in};
+ghost use Rattle.script_words.specs.Named.{word_of};
+ghost use Rattle.script_words.specs.Kept.{words_in};
 ghost use Rattle.script_shape.specs.Roles.{leaves_of};
 ghost use Rattle.goal_spans.specs.Reading as spec;
 
 use crate::span::Span;
 use script_shape::due::Due;
-use script_shape::{Symbol, Word, WordList};
+use script_words::class::Symbol;
+use script_words::words::Word;
+use script_words::list::WordList;
 use std::alloc::{AllocError, Global};
 use std::marker::Model;
 

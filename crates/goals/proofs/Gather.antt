@@ -2,26 +2,26 @@
 use Rattle.std.specs.Prelude.{◌≡◌, List, Some, None}
 use Rattle.std.specs.Option.{IsSomeAnd}
 use Rattle.std.proofs.Common.{subst, inl, inr, ⊎_elim}
-use Rattle.facts.specs.fx_model.Fraction.{Fraction}
-use Rattle.facts.specs.fx_model.Enclosure.{Lies}
-use Rattle.facts.specs.fx_model.Expression.{Assignment, value}
-use Rattle.facts.specs.fx_model.declared.Node.{Node}
-use Rattle.facts.specs.fx_model.declared.ExprId.{ExprId}
-use Rattle.facts.specs.interval.declared.interval.Interval.{Interval}
-use Rattle.facts.specs.interval.Intervals.{range_of}
-use Rattle.facts.specs.interval.Meets.{hull_of, lies-hull_left, lies-hull_right}
+use Rattle.fx_model.specs.Fraction.{Fraction}
+use Rattle.fx_model.specs.Enclosure.{Lies}
+use Rattle.fx_model.specs.Expression.{Assignment, value}
+use Rattle.fx_model.specs.declared.Node.{Node}
+use Rattle.fx_model.specs.declared.ExprId.{ExprId}
+use Rattle.interval.specs.declared.interval.Interval.{Interval}
+use Rattle.interval.specs.Intervals.{range_of}
+use Rattle.interval.specs.Meets.{hull_of, lies-hull_left, lies-hull_right}
 use Rattle.facts.specs.declared.fact.Fact.{Fact}
 use Rattle.facts.specs.declared.fact.Fact.TheVariants as fact
 use Rattle.facts.specs.declared.fact.Slot.{Slot}
 use Rattle.facts.specs.declared.fact.Slot.TheVariants as slot
 use Rattle.facts.specs.Holds.{AreZero, IsRelated, Holds}
 use Rattle.facts.specs.Order.{slot_of}
+use Rattle.facts.specs.Held.{some-and}
 use Rattle.goals.specs.Lies.{LiesAt, AreZeroAt, OfBoth}
 use Rattle.goals.specs.declared.line.Line.{Line}
 use Rattle.goals.specs.declared.line.Line.TheVariants as line
 use Rattle.goals.specs.Joined.{with_interval, with_zeros, joined}
 use Rattle.goals.specs.Holds.{LineHolds, IsOfGoal}
-use Rattle.facts.specs.Held.{some-and}
 
 -- ---- slots
 abbrev Grows : Interval → Interval → Type 0

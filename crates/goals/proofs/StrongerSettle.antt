@@ -1,11 +1,11 @@
 -- A stronger fact settles what a fact settles.
 use Rattle.std.specs.Prelude.{◌≡◌, ◌⊎◌, Some, None}
 use Rattle.std.proofs.Common.{refl, subst, ap, ◌∙◌, inl, inr, ⊎_elim}
-use Rattle.facts.specs.fx_model.Fraction.{Fraction}
-use Rattle.facts.specs.fx_model.Grid.{Bound, Below, At, Above}
-use Rattle.facts.specs.fx_model.Enclosure.{BoundLe, IsFinite, IsOrdered}
-use Rattle.facts.specs.interval.declared.interval.Interval.{Interval}
-use Rattle.facts.specs.interval.Intervals.{range_of}
+use Rattle.fx_model.specs.Fraction.{Fraction}
+use Rattle.fx_model.specs.Grid.{Bound, Below, At, Above}
+use Rattle.fx_model.specs.Enclosure.{BoundLe, IsFinite, IsOrdered}
+use Rattle.interval.specs.declared.interval.Interval.{Interval}
+use Rattle.interval.specs.Intervals.{range_of}
 use Rattle.facts.specs.declared.fact.Fact.{Fact}
 use Rattle.facts.specs.declared.fact.Fact.TheVariants as fact
 use Rattle.facts.specs.declared.fact.Slot.TheVariants as slot

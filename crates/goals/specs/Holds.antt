@@ -1,7 +1,7 @@
 -- What a line says of an assignment.
 use Rattle.std.specs.Prelude.{◌≡◌, ⊤, List}
-use Rattle.facts.specs.fx_model.declared.Node.{Node}
-use Rattle.facts.specs.fx_model.Expression.{Assignment}
+use Rattle.fx_model.specs.declared.Node.{Node}
+use Rattle.fx_model.specs.Expression.{Assignment}
 use Rattle.facts.specs.declared.fact.Fact.{Fact}
 use Rattle.facts.specs.declared.fact.Fact.TheVariants as fact
 use Rattle.facts.specs.declared.fact.Slot.{Slot}

@@ -1,7 +1,7 @@
 -- The line of a goal, gathered from facts.
 use Rattle.std.specs.Prelude.{Some, None}
-use Rattle.facts.specs.interval.declared.interval.Interval.{Interval}
-use Rattle.facts.specs.interval.Meets.{hull_of}
+use Rattle.interval.specs.declared.interval.Interval.{Interval}
+use Rattle.interval.specs.Meets.{hull_of}
 use Rattle.facts.specs.declared.fact.Fact.{Fact}
 use Rattle.facts.specs.declared.fact.Fact.TheVariants as fact
 use Rattle.goals.specs.declared.line.Line.{Line}

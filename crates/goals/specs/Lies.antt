@@ -1,13 +1,13 @@
 -- What of an assignment a slot is about.
 use Rattle.std.specs.Prelude.{List}
 use Rattle.std.specs.Option.{IsSomeAnd}
-use Rattle.facts.specs.fx_model.Fraction.{Fraction}
-use Rattle.facts.specs.fx_model.Enclosure.{Lies}
-use Rattle.facts.specs.fx_model.Expression.{Assignment, value}
-use Rattle.facts.specs.fx_model.declared.Node.{Node}
-use Rattle.facts.specs.fx_model.declared.ExprId.{ExprId}
-use Rattle.facts.specs.interval.declared.interval.Interval.{Interval}
-use Rattle.facts.specs.interval.Intervals.{range_of}
+use Rattle.fx_model.specs.Fraction.{Fraction}
+use Rattle.fx_model.specs.Enclosure.{Lies}
+use Rattle.fx_model.specs.Expression.{Assignment, value}
+use Rattle.fx_model.specs.declared.Node.{Node}
+use Rattle.fx_model.specs.declared.ExprId.{ExprId}
+use Rattle.interval.specs.declared.interval.Interval.{Interval}
+use Rattle.interval.specs.Intervals.{range_of}
 use Rattle.facts.specs.declared.fact.Slot.{Slot}
 use Rattle.facts.specs.declared.fact.Slot.TheVariants as slot
 use Rattle.facts.specs.Holds.{AreZero, IsRelated}

@@ -1,8 +1,8 @@
 -- When a fact settles a goal.
 use Rattle.std.specs.Prelude.{◌≡◌, ⊤, Some, None}
-use Rattle.facts.specs.fx_model.Enclosure.{IsFinite}
-use Rattle.facts.specs.interval.declared.interval.Interval.{Interval}
-use Rattle.facts.specs.interval.Intervals.{range_of}
+use Rattle.fx_model.specs.Enclosure.{IsFinite}
+use Rattle.interval.specs.declared.interval.Interval.{Interval}
+use Rattle.interval.specs.Intervals.{range_of}
 use Rattle.facts.specs.declared.fact.Fact.{Fact}
 use Rattle.facts.specs.declared.fact.Fact.TheVariants as fact
 use Rattle.facts.specs.Order.{slot_of, IsWithin}

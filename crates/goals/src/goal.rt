@@ -1,9 +1,11 @@
 ghost use Rattle.std.specs.Prelude.{◌↔◌, IsTrue};
-ghost use Rattle.facts.specs.fx_model.Enclosure.{IsFinite};
-ghost use Rattle.facts.specs.interval.Intervals.{range_of};
+ghost use Rattle.fx_model.specs.Enclosure.{IsFinite};
+ghost use Rattle.interval.specs.Intervals.{range_of};
 ghost use Rattle.goals.specs.Settles.{IsWanted, HasWanted, Settles};
 
-use facts::{End, Fact, Interval, Slot, slot};
+use dyadic::End;
+use facts::{Fact, Slot, slot};
+use interval::Interval;
 
 /// What is wanted of an interval.
 #[derive(Clone, Copy, PartialEq, Eq, Debug)]

@@ -1,7 +1,8 @@
 ghost use Rattle.std.specs.Prelude.{◌≡◌};
 ghost use Rattle.goals.specs.Joined.{with_interval, with_zeros, joined};
 
-use facts::{Fact, Interval};
+use facts::Fact;
+use interval::Interval;
 
 /// What is printed of a goal.
 #[derive(Clone, Copy, PartialEq, Eq, Debug)]

@@ -5,8 +5,8 @@ use Rattle.fx_model.specs.Fraction.{Fraction, ◌+ℚ◌, ◌-ℚ◌, ◌*ℚ◌
 use Rattle.fx_model.specs.Fraction.{abs_ℚ, abs-from, le_refl, le_trans, le_antisymm, le_or_lt}
 use Rattle.fx_model.specs.Fraction.{lt_le, lt_by, mul-le, mul_cancel, mul_comm, zero-mul, zero-add}
 use Rattle.fx_model.specs.Fraction.{add_comm, add_assoc, add-neg, add-le-add, neg-le, neg-neg}
-use Rattle.fx_model.specs.Fraction.{neg-add, neg-mul, div-mul}
-use Rattle.grid_words.specs.Signs.{neg_up, neg_down, mul-neg, abs_down}
+use Rattle.fx_model.specs.Fraction.{neg-add, neg-mul, div-mul, neg_up, neg_down, mul-neg}
+use Rattle.grid_words.specs.Signs.{abs_down}
 
 -- a number is 0 or above, or 0 or below, and its absolute value is it or its negative
 pub record IsUpSide (x : Fraction) : Type 0 where

@@ -1,5 +1,6 @@
 -- The first digits of a number that isn't negative: as many as the grid has, or down to its last
 -- place.
+use lib.Dec.{ltb}
 use Rattle.std.specs.Prelude.{◌≡◌, ℕ, ℤ, pos, negsuc, ◌+ℤ◌, ◌≤ℤ◌, ◌*◌, ◌+◌, ◌/◌, ◌%◌, ◌≤◌, ◌<◌, ◌^◌}
 use Rattle.std.specs.Prelude.{Bool, true, false, cond, not, refl}
 use Rattle.std.specs.Int.RustNames.{unsigned_abs}
@@ -7,11 +8,9 @@ use Rattle.std.proofs.Common.{arith, sym, ap, ◌∙◌, subst, inl, inr, zero, 
 use Rattle.std.proofs.lemmas.Nat.{div-add-mod', mod_below}
 use Rattle.std.proofs.lemmas.Bool.{ltb-true, ltb-false}
 use Rattle.std.proofs.lemmas.Int.{ints, by_lt_z}
-use lib.Dec.{ltb}
 use Rattle.fx_model.specs.Fraction.{Fraction, ◌*ℚ◌, ◌≤ℚ◌, ◌<ℚ◌, zero_ℚ, one_ℚ, le_ℚ, floor_ℚ}
-use Rattle.fx_model.specs.Fraction.{le_trans, le_antisymm, lt_not}
-use Rattle.fx_model.specs.Fraction.{mul_comm, mul_assoc, one-mul, zero-mul, times-le}
-use Rattle.fx_model.specs.Fraction.{times-lt}
+use Rattle.fx_model.specs.Fraction.{le_trans, le_antisymm, lt_not, mul_comm, mul_assoc, one-mul}
+use Rattle.fx_model.specs.Fraction.{zero-mul, times-le, times-lt}
 use Rattle.fx_model.specs.Powers.{whole, two_to, scaled, whole-le, zero-whole, one-whole}
 use Rattle.fx_model.specs.Powers.{two_to-add, two_to-pos, two_to-positive, floor_low, floor_high}
 use Rattle.fx_model.specs.Cut.{Cuts, Full, more, narrow_is}

@@ -2,10 +2,8 @@
 use Rattle.std.specs.Prelude.{◌≡◌, ◌≢◌}
 use Rattle.std.proofs.Common.{sym, ap, ◌∙◌}
 use Rattle.fx_model.specs.Fraction.{Fraction, ◌+ℚ◌, ◌-ℚ◌, ◌*ℚ◌, ◌/ℚ◌, inverse_ℚ, neg_ℚ, zero_ℚ}
-use Rattle.fx_model.specs.Fraction.{add_comm, add_assoc, add-neg, mul_comm}
-use Rattle.fx_model.specs.Fraction.{mul_assoc, one-mul, mul-inverse, sub-add}
-pub use Rattle.fx_model.specs.Fraction.{add-zero, mul-one, mul-zero, add-mul, middle_sums}
-pub use Rattle.fx_model.specs.Fraction.{middle_products}
+use Rattle.fx_model.specs.Fraction.{add_comm, add_assoc, add-neg, mul_comm, mul_assoc, one-mul}
+use Rattle.fx_model.specs.Fraction.{mul-inverse, sub-add, add-zero, mul-one, mul-zero}
 
 -- ---- sums
 neg-add_own : (y : Fraction) → neg_ℚ y +ℚ y ≡ zero_ℚ

@@ -1,16 +1,16 @@
 -- The roundings of a fraction to the grid.
+use lib.Dec.{ltb}
 use Rattle.std.specs.Prelude.{◌≡◌, ℕ, ℤ, pos, negsuc, ◌≤ℤ◌, ◌<ℤ◌, ◌+◌, ◌<◌, ◌≤◌, Bool, true, false}
 use Rattle.std.specs.Prelude.{cond, refl}
 use Rattle.std.specs.Int.RustNames.{int_lt}
 use Rattle.std.proofs.Common.{arith, sym, ap, ◌∙◌, subst, inl, inr}
 use Rattle.std.proofs.lemmas.Bool.{ltb-true, ltb-false}
 use Rattle.std.proofs.lemmas.Int.{ints}
-use lib.Dec.{ltb}
-use Rattle.fx_model.specs.Fraction.{Fraction, zero_ℚ, neg_ℚ, le_ℚ, le_refl, le_total}
-use Rattle.fx_model.specs.Fraction.{neg-neg, neg_up}
+use Rattle.fx_model.specs.Fraction.{Fraction, zero_ℚ, neg_ℚ, le_ℚ, le_refl, le_total, neg-neg}
+use Rattle.fx_model.specs.Fraction.{neg_up}
 use Rattle.fx_model.specs.Powers.{scaled}
-use Rattle.fx_model.specs.Grid.{Bound, At, Above, IsOnGrid, IsDown, IsUp, neg_bound}
-use Rattle.fx_model.specs.Grid.{IsDown-neg, IsUp-neg, IsDown-unique, neg_bound-neg}
+use Rattle.fx_model.specs.Grid.{Bound, At, Above, IsOnGrid, IsDown, IsUp, neg_bound, IsDown-neg}
+use Rattle.fx_model.specs.Grid.{IsUp-neg, IsDown-unique, neg_bound-neg}
 use Rattle.fx_model.specs.Cut.{Cuts, Full, up_is_exact, up_top, next_grid, top, down_beyond}
 use Rattle.fx_model.specs.Cut.{up_beyond}
 use Rattle.fx_model.specs.Cut as cut

@@ -2,13 +2,12 @@
 -- common.
 use Rattle.std.specs.Prelude.{◌≡◌}
 use Rattle.std.proofs.Common.{refl, sym, subst}
-use Rattle.fx_model.specs.Fraction.{Fraction, ◌-ℚ◌, ◌+ℚ◌, one_ℚ, le_trans}
-use Rattle.fx_model.specs.Fraction.{lt_not, minus_one, plus_one}
+use Rattle.fx_model.specs.Fraction.{Fraction, ◌-ℚ◌, ◌+ℚ◌, one_ℚ, le_trans, lt_not, minus_one}
+use Rattle.fx_model.specs.Fraction.{plus_one}
 use Rattle.fx_model.specs.Grid.{Bound, Below, At, Above, IsOnGrid}
 use Rattle.fx_model.specs.Enclosure.{Range, IsFrom, IsUpTo, Lies, IsInfimum, IsSupremum}
-use Rattle.fx_model.specs.Enclosure.{IsEnclosure, IsOrdered, infimum_at, supremum_at}
-use Rattle.fx_model.specs.Enclosure.{member_of, low_lies, high_lies, deep, far}
-use Rattle.fx_model.specs.Enclosure.{enclosure_same}
+use Rattle.fx_model.specs.Enclosure.{IsEnclosure, IsOrdered, infimum_at, supremum_at, member_of}
+use Rattle.fx_model.specs.Enclosure.{low_lies, high_lies, deep, far, enclosure_same}
 use Rattle.grid_words.specs.Nearest.{down, up, down_is, up_is}
 
 -- The end rounded down, and up.

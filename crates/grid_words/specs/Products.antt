@@ -6,9 +6,9 @@ use Rattle.fx_model.specs.Grid.{Bound, At}
 use Rattle.fx_model.specs.Enclosure.{Range, Lies, IsEnclosure, IsOrdered, IsFinite, Products}
 use Rattle.fx_model.specs.Enclosure.{Quotients, IsProduct, IsQuotient, whole_line, in_enclosure}
 use Rattle.fx_model.specs.Enclosure.{product_holds, member_of, ordered_by, from_ends}
+use Rattle.fx_model.specs.Enclosure.Unique.{both_or}
 use Rattle.grid_words.specs.Signs.{inverse_falls}
 use Rattle.grid_words.specs.Corners.{corners, corners_are}
-use Rattle.fx_model.specs.Enclosure.Unique.{both_or}
 
 -- The best interval of the products of numbers between the first two ends and between the last two;
 -- the whole line where one is infinite.

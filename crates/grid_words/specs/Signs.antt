@@ -4,10 +4,9 @@ use Rattle.std.proofs.Common.{sym, subst, ap, ◌∙◌, ⊎_elim}
 use Rattle.fx_model.specs.Fraction.{Fraction, ◌*ℚ◌, ◌≤ℚ◌, ◌<ℚ◌, zero_ℚ, one_ℚ, neg_ℚ, abs_ℚ}
 use Rattle.fx_model.specs.Fraction.{inverse_ℚ, abs-from, abs-below, mul-inverse, mul-le}
 use Rattle.fx_model.specs.Fraction.{mul-le_cancel, mul_comm, mul_assoc, one-mul, zero-mul, zero-add}
-use Rattle.fx_model.specs.Fraction.{neg-mul, neg-neg, neg-le, le_refl, le_antisymm}
-use Rattle.fx_model.specs.Fraction.{le_or_lt, lt_le, lt_not, lt_le_trans, le_lt_trans, lt_by}
-use Rattle.fx_model.specs.Fraction.{plus_one, neg-le_out}
-pub use Rattle.fx_model.specs.Fraction.{neg_zero, neg_up, neg_down, mul-neg}
+use Rattle.fx_model.specs.Fraction.{neg-mul, neg-neg, neg-le, le_refl, le_antisymm, le_or_lt, lt_le}
+use Rattle.fx_model.specs.Fraction.{lt_not, lt_le_trans, le_lt_trans, lt_by, plus_one, neg-le_out}
+use Rattle.fx_model.specs.Fraction.{neg_zero, neg_up, mul-neg}
 
 pub zero_one : zero_ℚ <ℚ one_ℚ
 zero_one = subst (λ y. zero_ℚ <ℚ y) (zero-add one_ℚ) (plus_one zero_ℚ)

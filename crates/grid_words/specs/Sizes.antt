@@ -1,14 +1,14 @@
 -- The best interval of the sizes.
 use Rattle.std.specs.Prelude.{◌≡◌, ◌⊎◌, Bool, true, false, cond, refl}
 use Rattle.std.proofs.Common.{sym, subst, ◌∙◌, ⊎_elim, inl, inr}
-use Rattle.fx_model.specs.Fraction.{Fraction, zero_ℚ, neg_ℚ, abs_ℚ, abs-from, le_total}
-use Rattle.fx_model.specs.Fraction.{le_or_lt, lt_le, neg-neg}
+use Rattle.fx_model.specs.Fraction.{Fraction, zero_ℚ, neg_ℚ, abs_ℚ, abs-from, le_total, le_or_lt}
+use Rattle.fx_model.specs.Fraction.{lt_le, neg-neg, neg_up, neg_down}
 use Rattle.fx_model.specs.Grid.{Bound, Below, At, Above, le_bound, neg_bound}
 use Rattle.fx_model.specs.Enclosure.{Range, IsUpTo, Lies, IsOrdered, Sizes, IsSize, BoundLe}
-use Rattle.fx_model.specs.Enclosure.{member_of, ordered_by, enclosure_ordered, mirror}
-use Rattle.fx_model.specs.Enclosure.{lies_mirror, lies_mirrored, from-le, up_to-le}
+use Rattle.fx_model.specs.Enclosure.{member_of, ordered_by, enclosure_ordered, mirror, lies_mirror}
+use Rattle.fx_model.specs.Enclosure.{lies_mirrored, from-le, up_to-le}
 use Rattle.grid_words.specs.Outward.{outward, outward_exact}
-use Rattle.grid_words.specs.Signs.{neg_up, neg_down, abs_down}
+use Rattle.grid_words.specs.Signs.{abs_down}
 
 -- The greater of two ends; infinite ones are below or above all numbers.
 abbrev pub greater_end : Bound → Bound → Bound

@@ -2,11 +2,10 @@
 use Rattle.std.proofs.Common.{refl, sym, subst, ap, ◌∙◌}
 use Rattle.fx_model.specs.Fraction.{◌+ℚ◌, ◌-ℚ◌, neg_ℚ, neg-neg}
 use Rattle.fx_model.specs.Grid.{Bound, Below, At, Above}
-use Rattle.fx_model.specs.Enclosure.{Range, Lies, IsOrdered, Negations, Sums}
-use Rattle.fx_model.specs.Enclosure.{Differences, IsNegation, IsSum, IsDifference, LowSum, HighSum}
-use Rattle.fx_model.specs.Enclosure.{sum_is, member_of, enclosure_ordered}
-use Rattle.fx_model.specs.Enclosure.{enclosure_same, mirror, lies_mirror, lies_mirrored}
-use Rattle.fx_model.specs.Enclosure.{mirror_ordered}
+use Rattle.fx_model.specs.Enclosure.{Range, Lies, IsOrdered, Negations, Sums, Differences}
+use Rattle.fx_model.specs.Enclosure.{IsNegation, IsSum, IsDifference, LowSum, HighSum, sum_is}
+use Rattle.fx_model.specs.Enclosure.{member_of, enclosure_ordered, enclosure_same, mirror}
+use Rattle.fx_model.specs.Enclosure.{lies_mirror, lies_mirrored, mirror_ordered}
 use Rattle.grid_words.specs.Nearest.{down, up, down_is, up_is}
 use Rattle.grid_words.specs.Outward.{outward, outward_exact}
 

@@ -1,17 +1,17 @@
 -- The corners at which a product is least.
 use Rattle.std.specs.Prelude.{◌≡◌, ◌⊎◌}
 use Rattle.std.proofs.Common.{refl, sym, subst, ap, ◌∙◌, ⊎_elim, inl, inr}
-use Rattle.dyadic.specs.fx_model.Fraction.{Fraction, ◌*ℚ◌, ◌≤ℚ◌, ◌<ℚ◌, zero_ℚ, neg_ℚ, le_trans}
-use Rattle.dyadic.specs.fx_model.Fraction.{le_refl, le_or_lt, lt_le, mul-le, neg-mul}
-use Rattle.dyadic.specs.fx_model.Grid.{Bound, IsDown, neg_bound}
-use Rattle.dyadic.specs.fx_model.Enclosure.{Range, Lies, Products, IsInfimum, IsSupremum, IsOrdered}
-use Rattle.dyadic.specs.fx_model.Enclosure.{BoundLe, infimum_at, member_of, mirror, lies_mirror}
-use Rattle.dyadic.specs.fx_model.Enclosure.{lies_mirrored, enclosure_ordered}
+use Rattle.fx_model.specs.Fraction.{Fraction, ◌*ℚ◌, ◌≤ℚ◌, ◌<ℚ◌, zero_ℚ, neg_ℚ, le_trans, le_refl}
+use Rattle.fx_model.specs.Fraction.{le_or_lt, lt_le, mul-le, neg-mul}
+use Rattle.fx_model.specs.Grid.{Bound, IsDown, neg_bound}
+use Rattle.fx_model.specs.Enclosure.{Range, Lies, Products, IsInfimum, IsSupremum, IsOrdered}
+use Rattle.fx_model.specs.Enclosure.{BoundLe, infimum_at, member_of, mirror, lies_mirror}
+use Rattle.fx_model.specs.Enclosure.{lies_mirrored, enclosure_ordered}
 use Rattle.grid_words.specs.Signs.{times_up, times_down, factor_down}
 use Rattle.grid_words.specs.Products.{closed}
+use Rattle.dyadic.specs.Extremes.{BoundLe-antisymm}
 use Rattle.interval.proofs.Inequalities.{down-le}
 use Rattle.interval.specs.Enclosures.{supremum_neg}
-use Rattle.dyadic.specs.Extremes.{BoundLe-antisymm}
 
 least_is : (e f g : Bound) → BoundLe f g → BoundLe e f → (e ≡ f) ⊎ (e ≡ g) → e ≡ f
 least_is e f g h s (inl p) = p

@@ -1,18 +1,16 @@
 -- The least quotient, and what changes with the signs of both parts.
 use Rattle.std.specs.Prelude.{◌≡◌}
 use Rattle.std.proofs.Common.{refl, sym, subst, ap, ◌∙◌}
-use Rattle.dyadic.specs.fx_model.Fraction.{Fraction, ◌*ℚ◌, ◌/ℚ◌, ◌≤ℚ◌, ◌<ℚ◌, zero_ℚ, neg_ℚ}
-use Rattle.dyadic.specs.fx_model.Fraction.{inverse_ℚ, mul-le, neg-mul, neg-neg, le_trans, le_refl}
-use Rattle.dyadic.specs.fx_model.Fraction.{lt_le_trans, lt_by}
-use Rattle.dyadic.specs.fx_model.Grid.{Bound, IsDown, neg_bound}
-use Rattle.dyadic.specs.fx_model.Enclosure.{Range, Lies, Quotients, IsInfimum, IsSupremum}
-use Rattle.dyadic.specs.fx_model.Enclosure.{IsEnclosure, IsOrdered, infimum_at, member_of, mirror}
-use Rattle.dyadic.specs.fx_model.Enclosure.{lies_mirror, lies_mirrored, enclosure_same}
-use Rattle.dyadic.specs.fx_model.Enclosure.{enclosure_ordered}
-use Rattle.grid_words.specs.Signs.{times_up, factor_down, neg_zero, mul-neg, neg_up, inverse_up}
-use Rattle.grid_words.specs.Signs.{inverse_le, inverse-neg}
-use Rattle.interval.specs.Enclosures.{supremum_neg}
+use Rattle.fx_model.specs.Fraction.{Fraction, ◌*ℚ◌, ◌/ℚ◌, ◌≤ℚ◌, ◌<ℚ◌, zero_ℚ, neg_ℚ, inverse_ℚ}
+use Rattle.fx_model.specs.Fraction.{mul-le, neg-mul, neg-neg, le_trans, le_refl, lt_le_trans, lt_by}
+use Rattle.fx_model.specs.Fraction.{neg_zero, mul-neg, neg_up}
+use Rattle.fx_model.specs.Grid.{Bound, IsDown, neg_bound}
+use Rattle.fx_model.specs.Enclosure.{Range, Lies, Quotients, IsInfimum, IsSupremum, IsEnclosure}
+use Rattle.fx_model.specs.Enclosure.{IsOrdered, infimum_at, member_of, mirror, lies_mirror}
+use Rattle.fx_model.specs.Enclosure.{lies_mirrored, enclosure_same, enclosure_ordered}
+use Rattle.grid_words.specs.Signs.{times_up, factor_down, inverse_up, inverse_le, inverse-neg}
 use Rattle.grid_words.specs.Products.{closed}
+use Rattle.interval.specs.Enclosures.{supremum_neg}
 
 -- the divisor is above 0
 module _ (a b c d : Fraction) (i : a ≤ℚ b) (j : c ≤ℚ d) (p : zero_ℚ <ℚ c) where

@@ -1,10 +1,9 @@
 -- The order of fractions and ends.
 use Rattle.std.specs.Prelude.{◌≡◌, Bool, true, false, IsTrue}
 use Rattle.std.proofs.Common.{sym, ◌∙◌, ⊎_elim}
-use Rattle.dyadic.specs.fx_model.Fraction.{Fraction, ◌≤ℚ◌, le_trans, le_or_lt}
-use Rattle.dyadic.specs.fx_model.Fraction.{lt_le}
-use Rattle.dyadic.specs.fx_model.Grid.{Bound, Below, At, Above, IsDown}
-use Rattle.dyadic.specs.fx_model.Enclosure.{BoundLe}
+use Rattle.fx_model.specs.Fraction.{Fraction, ◌≤ℚ◌, le_trans, le_or_lt, lt_le}
+use Rattle.fx_model.specs.Grid.{Bound, Below, At, Above, IsDown}
+use Rattle.fx_model.specs.Enclosure.{BoundLe}
 
 -- ---- ends
 pub bound_total : (b c : Bound) → ¬ (BoundLe b c) → BoundLe c b

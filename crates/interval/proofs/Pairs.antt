@@ -1,11 +1,11 @@
 -- What lies in two intervals, in both and in either.
 use Rattle.std.specs.Prelude.{◌≡◌, ◌⊎◌}
 use Rattle.std.proofs.Common.{sym, subst, ap, ⊎_elim, inl, inr}
-use Rattle.dyadic.specs.fx_model.Fraction.{Fraction}
-use Rattle.dyadic.specs.fx_model.Grid.{Bound, Below, At, Above}
-use Rattle.dyadic.specs.fx_model.Enclosure.{Range, IsFrom, IsUpTo, Lies, IsInfimum, IsSupremum}
-use Rattle.dyadic.specs.fx_model.Enclosure.{IsOrdered, BoundLe, member_of, ordered_by}
-use Rattle.dyadic.specs.fx_model.Enclosure.{enclosure_ordered, from-le, up_to-le}
+use Rattle.fx_model.specs.Fraction.{Fraction}
+use Rattle.fx_model.specs.Grid.{Bound, Below, At, Above}
+use Rattle.fx_model.specs.Enclosure.{Range, IsFrom, IsUpTo, Lies, IsInfimum, IsSupremum, IsOrdered}
+use Rattle.fx_model.specs.Enclosure.{BoundLe, member_of, ordered_by, enclosure_ordered, from-le}
+use Rattle.fx_model.specs.Enclosure.{up_to-le}
 use Rattle.dyadic.specs.declared.number.End.{End}
 use Rattle.dyadic.specs.Ends.{bound_of}
 use Rattle.dyadic.specs.Made.{IsGridBound}

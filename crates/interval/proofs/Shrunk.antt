@@ -1,4 +1,5 @@
 -- Multiples of a power of two beside a number, and the least interval of those in an interval.
+use lib.IntN.{neg_ℤ}
 use Rattle.std.specs.Prelude.{◌≡◌, ℕ, ℤ, pos, negsuc, ◌+ℤ◌, ◌*ℤ◌, ◌≤ℤ◌, ◌+◌, ◌*◌, ◌/◌, ◌^◌, ◌≤◌}
 use Rattle.std.specs.Prelude.{◌<◌}
 use Rattle.std.specs.Int.RustNames.{unsigned_abs}
@@ -9,13 +10,11 @@ use Rattle.std.proofs.Common.{⊎_elim}
 use Rattle.std.proofs.lemmas.Int.{ints}
 use Rattle.std.proofs.lemmas.Bool.{cases_lt}
 use Rattle.std.proofs.lemmas.Nat.{div-add-mod', mod_below, pow_pos}
-use lib.IntN.{neg_ℤ}
-use Rattle.dyadic.specs.fx_model.Fraction.{Fraction, ◌≤ℚ◌, ◌<ℚ◌, neg_ℚ, le_refl, le_lt_trans}
-use Rattle.dyadic.specs.fx_model.Fraction.{neg-le}
-use Rattle.dyadic.specs.fx_model.Powers.{scaled, IsMultiple, scaled-le, scaled-lt, scaled-lt_out}
-use Rattle.dyadic.specs.fx_model.Powers.{scaled-shift}
-use Rattle.dyadic.specs.fx_model.Grid.{Bound, Below, At, Above, IsOnGrid, neg_bound}
-use Rattle.dyadic.specs.fx_model.Grid.{neg_over, neg_under, multiple-neg}
+use Rattle.fx_model.specs.Fraction.{Fraction, ◌≤ℚ◌, ◌<ℚ◌, neg_ℚ, le_refl, le_lt_trans, neg-le}
+use Rattle.fx_model.specs.Powers.{scaled, IsMultiple, scaled-le, scaled-lt, scaled-lt_out}
+use Rattle.fx_model.specs.Powers.{scaled-shift}
+use Rattle.fx_model.specs.Grid.{Bound, Below, At, Above, IsOnGrid, neg_bound, neg_over, neg_under}
+use Rattle.fx_model.specs.Grid.{multiple-neg}
 use Rattle.interval.specs.Multiples.{IsMultipleDown, IsMultipleUp, IsEndDown, IsEndUp}
 
 -- ---- a shift to the right

@@ -1,23 +1,21 @@
 -- Absolute values and squares.
 use Rattle.std.specs.Prelude.{◌≡◌, ◌⊎◌, Bool, false, IsTrue}
 use Rattle.std.proofs.Common.{refl, sym, subst, ap, ◌∙◌, ⊎_elim}
-use Rattle.dyadic.specs.fx_model.Fraction.{Fraction, ◌+ℚ◌, ◌*ℚ◌, ◌-ℚ◌, ◌≤ℚ◌, ◌<ℚ◌, zero_ℚ, one_ℚ}
-use Rattle.dyadic.specs.fx_model.Fraction.{neg_ℚ, abs_ℚ, abs-from, le_trans, le_refl}
-use Rattle.dyadic.specs.fx_model.Fraction.{le_or_lt, lt_le, lt_not, neg-neg, neg-mul}
-use Rattle.dyadic.specs.fx_model.Fraction.{mul-le, minus_one, plus_one, zero-add, one-mul}
-use Rattle.dyadic.specs.fx_model.Fraction.{add-le-add, lt_le_trans}
-use Rattle.dyadic.specs.fx_model.Grid.{Bound, Below, At, Above, neg_bound, neg_bound-neg}
-use Rattle.dyadic.specs.fx_model.Enclosure.{Range, IsFrom, IsUpTo, Lies, Negations, Sizes, Squares}
-use Rattle.dyadic.specs.fx_model.Enclosure.{IsSquare, IsInfimum, IsSupremum, IsEnclosure, IsOrdered}
-use Rattle.dyadic.specs.fx_model.Enclosure.{BoundLe, infimum_at, supremum_at, member_of, ordered_by}
-use Rattle.dyadic.specs.fx_model.Enclosure.{deep, far, low_lies, high_lies, from_neg, up_to_neg}
-use Rattle.dyadic.specs.fx_model.Enclosure.{enclosure_same, enclosure_ordered, from-le, up_to-le}
+use Rattle.fx_model.specs.Fraction.{Fraction, ◌+ℚ◌, ◌*ℚ◌, ◌-ℚ◌, ◌≤ℚ◌, ◌<ℚ◌, zero_ℚ, one_ℚ, neg_ℚ}
+use Rattle.fx_model.specs.Fraction.{abs_ℚ, abs-from, le_trans, le_refl, le_or_lt, lt_le, lt_not}
+use Rattle.fx_model.specs.Fraction.{neg-neg, neg-mul, mul-le, minus_one, plus_one, zero-add}
+use Rattle.fx_model.specs.Fraction.{one-mul, add-le-add, lt_le_trans, neg_up, neg_down, mul-neg}
+use Rattle.fx_model.specs.Grid.{Bound, Below, At, Above, neg_bound, neg_bound-neg}
+use Rattle.fx_model.specs.Enclosure.{Range, IsFrom, IsUpTo, Lies, Negations, Sizes, Squares}
+use Rattle.fx_model.specs.Enclosure.{IsSquare, IsInfimum, IsSupremum, IsEnclosure, IsOrdered}
+use Rattle.fx_model.specs.Enclosure.{BoundLe, infimum_at, supremum_at, member_of, ordered_by, deep}
+use Rattle.fx_model.specs.Enclosure.{far, low_lies, high_lies, from_neg, up_to_neg, enclosure_same}
+use Rattle.fx_model.specs.Enclosure.{enclosure_ordered, from-le, up_to-le}
+use Rattle.grid_words.specs.Signs.{times_up, zero_one, abs_down}
+use Rattle.grid_words.specs.AbsoluteValues.{abs-square, abs-not_negative}
 use Rattle.interval.specs.Exact.{IsExact}
 use Rattle.interval.specs.Squares.{LowSquare, HighSquare}
-use Rattle.grid_words.specs.Signs.{neg_up, neg_down, mul-neg, times_up, zero_one}
-use Rattle.grid_words.specs.Signs.{abs_down}
 use Rattle.interval.proofs.Inequalities.{bound_by}
-use Rattle.grid_words.specs.AbsoluteValues.{abs-square, abs-not_negative}
 
 pub sizes_up : (r : Range) → BoundLe (At zero_ℚ) r.low → IsExact (Sizes r) r
 sizes_up r p z = (

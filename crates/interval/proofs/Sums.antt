@@ -1,12 +1,11 @@
 -- The sum and the difference of two intervals, by their ends.
 use Rattle.std.specs.Prelude.{◌≡◌}
 use Rattle.std.proofs.Common.{refl, sym, subst, ap, ◌∙◌}
-use Rattle.dyadic.specs.fx_model.Fraction.{◌+ℚ◌, neg_ℚ, neg-neg}
-use Rattle.dyadic.specs.fx_model.Grid.{Bound, neg_bound}
-use Rattle.dyadic.specs.fx_model.Enclosure.{Range, IsOrdered, Sums, IsSum, Differences}
-use Rattle.dyadic.specs.fx_model.Enclosure.{IsDifference, LowSum, HighSum, sum_is, member_of}
-use Rattle.dyadic.specs.fx_model.Enclosure.{mirror, enclosure_ordered, enclosure_same}
-use Rattle.dyadic.specs.fx_model.Enclosure.{mirror_ordered, lies_mirror, lies_mirrored}
+use Rattle.fx_model.specs.Fraction.{◌+ℚ◌, neg_ℚ, neg-neg}
+use Rattle.fx_model.specs.Grid.{Bound, neg_bound}
+use Rattle.fx_model.specs.Enclosure.{Range, IsOrdered, Sums, IsSum, Differences, IsDifference}
+use Rattle.fx_model.specs.Enclosure.{LowSum, HighSum, sum_is, member_of, mirror, enclosure_ordered}
+use Rattle.fx_model.specs.Enclosure.{enclosure_same, mirror_ordered, lies_mirror, lies_mirrored}
 
 module _ (r s t : Range) (i : IsOrdered r.low r.high) (j : IsOrdered s.low s.high) where
   pub ends_sum : LowSum r.low s.low t.low → HighSum r.high s.high t.high → IsSum r s t

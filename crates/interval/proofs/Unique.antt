@@ -1,7 +1,7 @@
 -- Each operation has one result.
-use Rattle.dyadic.specs.fx_model.Fraction.{Fraction}
-use Rattle.dyadic.specs.fx_model.Enclosure.{Range, IsEnclosure, IsProduct, IsQuotient}
-use Rattle.dyadic.specs.fx_model.Enclosure.{enclosure_unique, product_unique}
+use Rattle.fx_model.specs.Fraction.{Fraction}
+use Rattle.fx_model.specs.Enclosure.{Range, IsEnclosure, IsProduct, IsQuotient, enclosure_unique}
+use Rattle.fx_model.specs.Enclosure.{product_unique}
 use Rattle.interval.specs.Unique.{IsOnly}
 use Rattle.interval.specs.Results.{quotient_unique}
 

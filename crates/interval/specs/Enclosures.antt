@@ -1,16 +1,13 @@
 -- Enclosures of negatives, and of sets that are intervals with ends on the grid.
 use Rattle.std.specs.Prelude.{◌≡◌}
 use Rattle.std.proofs.Common.{refl, sym, subst}
-use Rattle.dyadic.specs.fx_model.Fraction.{Fraction, ◌-ℚ◌, one_ℚ, neg_ℚ, le_trans}
-use Rattle.dyadic.specs.fx_model.Fraction.{lt_not, neg-neg, minus_one}
-use Rattle.dyadic.specs.fx_model.Grid.{Bound, Below, At, Above, IsOnGrid-neg, neg_bound, neg_over}
-use Rattle.dyadic.specs.fx_model.Grid.{neg_under, neg_bound-neg}
-use Rattle.dyadic.specs.fx_model.Enclosure.{Range, IsFrom, Lies, IsInfimum, IsSupremum}
-use Rattle.dyadic.specs.fx_model.Enclosure.{IsEnclosure, IsOrdered, Negations}
-use Rattle.dyadic.specs.fx_model.Enclosure.{member_of, mirror}
-use Rattle.dyadic.specs.fx_model.Enclosure.{enclosure_same}
-use Rattle.dyadic.specs.fx_model.Enclosure.{lies_mirror, lies_mirrored, mirror_ordered}
-use Rattle.dyadic.specs.fx_model.Enclosure.{low_lies, deep}
+use Rattle.fx_model.specs.Fraction.{Fraction, ◌-ℚ◌, one_ℚ, neg_ℚ, le_trans, lt_not, neg-neg}
+use Rattle.fx_model.specs.Fraction.{minus_one}
+use Rattle.fx_model.specs.Grid.{Bound, Below, At, Above, IsOnGrid-neg, neg_bound, neg_over}
+use Rattle.fx_model.specs.Grid.{neg_under, neg_bound-neg}
+use Rattle.fx_model.specs.Enclosure.{Range, IsFrom, Lies, IsInfimum, IsSupremum, IsEnclosure}
+use Rattle.fx_model.specs.Enclosure.{IsOrdered, Negations, member_of, mirror, enclosure_same}
+use Rattle.fx_model.specs.Enclosure.{lies_mirror, lies_mirrored, mirror_ordered, low_lies, deep}
 use Rattle.dyadic.specs.Made.{IsGridBound}
 use Rattle.interval.specs.Exact.{IsExact}
 

@@ -1,8 +1,8 @@
 -- The ends of an interval.
 use Rattle.std.specs.Prelude.{◌≡◌, Option, Some, None}
-use Rattle.dyadic.specs.fx_model.Fraction.{Fraction}
-use Rattle.dyadic.specs.fx_model.Grid.{Bound, At}
-use Rattle.dyadic.specs.fx_model.Enclosure.{Range, IsOrdered, IsOrdered-prop}
+use Rattle.fx_model.specs.Fraction.{Fraction}
+use Rattle.fx_model.specs.Grid.{Bound, At}
+use Rattle.fx_model.specs.Enclosure.{Range, IsOrdered, IsOrdered-prop}
 use Rattle.dyadic.specs.declared.number.Dyadic.{Dyadic}
 use Rattle.dyadic.specs.declared.number.End.{End}
 use Rattle.dyadic.specs.Values.{value_of}

@@ -1,7 +1,7 @@
 -- Intervals that are just a set of fractions.
 use Rattle.std.specs.Prelude.{◌↔◌}
-use Rattle.dyadic.specs.fx_model.Fraction.{Fraction}
-use Rattle.dyadic.specs.fx_model.Enclosure.{Range, Lies}
+use Rattle.fx_model.specs.Fraction.{Fraction}
+use Rattle.fx_model.specs.Enclosure.{Range, Lies}
 
 -- in r lies what the set has, and nothing else
 abbrev pub IsExact : (Fraction → Type 0) → Range → Type 0

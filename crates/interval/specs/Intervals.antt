@@ -1,8 +1,8 @@
 -- What an interval stands for. There is one interval with given ends.
+use mathlib.Core.HLevel.{is_prop→PathP}
 use Rattle.std.specs.Prelude.{◌≡◌}
 use Rattle.std.proofs.Common.{ap}
-use mathlib.Core.HLevel.{is_prop→PathP}
-use Rattle.dyadic.specs.fx_model.Enclosure.{Range}
+use Rattle.fx_model.specs.Enclosure.{Range}
 use Rattle.dyadic.specs.Ends.{same_bound}
 use Rattle.interval.specs.declared.interval.Interval.{Interval}
 use Rattle.interval.specs.Ends.{AreEnds, AreEnds-prop, range_from}

@@ -1,8 +1,3 @@
--- What callers name of the crates below.
-pub use Rattle.dyadic.specs as dyadic
-pub use Rattle.dyadic.specs.fx_model as fx_model
-pub use Rattle.grid_words.specs as grid_words
-pub use Rattle.literal.specs as literal
 pub mod Ends
 pub mod Intervals
 pub mod Spans

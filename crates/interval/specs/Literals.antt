@@ -1,6 +1,6 @@
 -- The set that a number makes alone.
 use Rattle.std.specs.Prelude.{◌≡◌}
-use Rattle.dyadic.specs.fx_model.Fraction.{Fraction}
+use Rattle.fx_model.specs.Fraction.{Fraction}
 
 -- x and nothing else
 abbrev pub Alone : Fraction → Fraction → Type 0

@@ -1,13 +1,12 @@
 -- What lies in two intervals, by their ends.
 use Rattle.std.specs.Prelude.{◌≡◌, Bool, true, false, Option, Some, None, refl}
 use Rattle.std.proofs.Common.{sym, subst, ap}
-use Rattle.dyadic.specs.fx_model.Fraction.{Fraction, le_ℚ}
-use Rattle.dyadic.specs.fx_model.Grid.{Bound, Below, At, Above}
-use Rattle.dyadic.specs.fx_model.Enclosure.{IsOrdered, IsFrom, IsUpTo, Lies, BoundLe, Within}
-use Rattle.dyadic.specs.fx_model.Enclosure.{member_of, ordered_by, within_in}
+use Rattle.fx_model.specs.Fraction.{Fraction, le_ℚ}
+use Rattle.fx_model.specs.Grid.{Bound, Below, At, Above, le_bound}
+use Rattle.fx_model.specs.Enclosure.{IsOrdered, IsFrom, IsUpTo, Lies, BoundLe, Within, member_of}
+use Rattle.fx_model.specs.Enclosure.{ordered_by, within_in}
 use Rattle.dyadic.specs.declared.number.End.{End}
 use Rattle.dyadic.specs.Ends.{bound_of}
-use Rattle.dyadic.specs.Order.{le_bound}
 use Rattle.dyadic.specs.Extremes.{greater_end, lesser_end, greater_above, lesser_below}
 use Rattle.dyadic.specs.Extremes.{greater_least, lesser_most, chosen}
 use Rattle.interval.specs.declared.interval.Interval.{Interval}

@@ -2,14 +2,12 @@
 use Rattle.std.specs.Prelude.{◌≡◌, ◌&&◌, Bool, true, refl}
 use Rattle.std.proofs.Common.{sym, subst, ⊎_elim}
 use Rattle.std.proofs.lemmas.Bool.{and_parts}
-use Rattle.dyadic.specs.fx_model.Fraction.{Fraction, ◌+ℚ◌, ◌-ℚ◌, ◌≤ℚ◌, zero_ℚ, one_ℚ, le_refl}
-use Rattle.dyadic.specs.fx_model.Fraction.{le_trans, lt_le, lt_not, le_or_lt, minus_one, plus_one}
-use Rattle.dyadic.specs.fx_model.Grid.{Bound, Below, At, Above, IsDown, IsUp}
-use Rattle.dyadic.specs.fx_model.Enclosure.{Range, IsOrdered, IsFrom, IsUpTo, Lies, BoundLe, Within}
-use Rattle.dyadic.specs.fx_model.Enclosure.{IsInfimum, IsSupremum, in_enclosure, member_of}
-use Rattle.dyadic.specs.fx_model.Enclosure.{within_in, lower_up_to, higher_from, end_up_to}
-use Rattle.dyadic.specs.fx_model.Enclosure.{end_from}
-use Rattle.dyadic.specs.Order.{le_bound}
+use Rattle.fx_model.specs.Fraction.{Fraction, ◌+ℚ◌, ◌-ℚ◌, ◌≤ℚ◌, zero_ℚ, one_ℚ, le_refl, le_trans}
+use Rattle.fx_model.specs.Fraction.{lt_le, lt_not, le_or_lt, minus_one, plus_one}
+use Rattle.fx_model.specs.Grid.{Bound, Below, At, Above, IsDown, IsUp, le_bound}
+use Rattle.fx_model.specs.Enclosure.{Range, IsOrdered, IsFrom, IsUpTo, Lies, BoundLe, Within}
+use Rattle.fx_model.specs.Enclosure.{IsInfimum, IsSupremum, in_enclosure, member_of, within_in}
+use Rattle.fx_model.specs.Enclosure.{lower_up_to, higher_from, end_up_to, end_from}
 use Rattle.dyadic.specs.Compared.{BoundLe_in, BoundLe_out}
 use Rattle.dyadic.specs.Ends.{bound_of}
 use Rattle.dyadic.specs.Values.{value_of, on_grid}

@@ -1,11 +1,12 @@
 -- Smaller intervals have smaller results.
 use Rattle.std.specs.Prelude.{◌≡◌, Some, refl}
 use Rattle.std.proofs.Common.{sym, subst, ⊎_elim}
-use Rattle.dyadic.specs.fx_model.Fraction.{Fraction, neg-le}
-use Rattle.dyadic.specs.fx_model.Grid.{Bound, Below, At, Above, neg_bound}
-use Rattle.dyadic.specs.fx_model.Enclosure.{Range, IsOrdered, IsFinite, BoundLe, Within, within_in}
-use Rattle.dyadic.specs.fx_model.Enclosure.{enclosure_isotone, Negations, Sizes, Sums, Differences}
-use Rattle.dyadic.specs.fx_model.Enclosure.{Products, Quotients, whole_line, from_ends}
+use Rattle.fx_model.specs.Fraction.{Fraction, neg-le}
+use Rattle.fx_model.specs.Grid.{Bound, Below, At, Above, neg_bound}
+use Rattle.fx_model.specs.Enclosure.{Range, IsOrdered, IsFinite, BoundLe, Within, within_in}
+use Rattle.fx_model.specs.Enclosure.{enclosure_isotone, Negations, Sizes, Sums, Differences}
+use Rattle.fx_model.specs.Enclosure.{Products, Quotients, whole_line, from_ends}
+use Rattle.fx_model.specs.Enclosure.Unique.{both_or}
 use Rattle.dyadic.specs.declared.number.End.{End}
 use Rattle.dyadic.specs.Ends.{bound_of}
 use Rattle.dyadic.specs.Extremes.{BoundLe-trans, greater_end, greater_above, greater_least}
@@ -16,7 +17,6 @@ use Rattle.interval.specs.Meets.{interval_from, interval_from-some, interval_fro
 use Rattle.interval.specs.Results.{negation_of, negation_of-is, size_of, size_of-is, sum_of}
 use Rattle.interval.specs.Results.{sum_of-is, difference_of, difference_of-is, product_of}
 use Rattle.interval.specs.Results.{product_of-is, quotient_of, quotient_of-some, quotient_of-is}
-use Rattle.dyadic.specs.fx_model.Enclosure.Unique.{both_or}
 
 -- ---- ends
 pub neg_bound-falls : (b c : Bound) → BoundLe b c → BoundLe (neg_bound c) (neg_bound b)

@@ -1,8 +1,8 @@
 -- Multiples of 2^k beside a number or an end.
 use Rattle.std.specs.Prelude.{◌≡◌, ℤ}
-use Rattle.dyadic.specs.fx_model.Fraction.{Fraction, ◌≤ℚ◌}
-use Rattle.dyadic.specs.fx_model.Powers.{IsMultiple}
-use Rattle.dyadic.specs.fx_model.Grid.{Bound, Below, At, Above}
+use Rattle.fx_model.specs.Fraction.{Fraction, ◌≤ℚ◌}
+use Rattle.fx_model.specs.Powers.{IsMultiple}
+use Rattle.fx_model.specs.Grid.{Bound, Below, At, Above}
 
 -- m is the greatest multiple that is at most x
 pub record IsMultipleDown (k : ℤ) (x m : Fraction) : Type 0 where

@@ -1,11 +1,11 @@
 -- The interval that holds a range of fractions, its ends rounded outward to the grid.
 use Rattle.std.specs.Prelude.{◌≡◌, Option, Some, refl}
 use Rattle.std.proofs.Common.{sym, ap, subst, ◌∙◌}
-use Rattle.dyadic.specs.fx_model.Fraction.{Fraction}
-use Rattle.dyadic.specs.fx_model.Grid.{Bound, Below, At, Above, IsDown, IsUp}
-use Rattle.dyadic.specs.fx_model.Enclosure.{Range, Lies, IsEnclosure, IsOrdered, Within, member_of}
-use Rattle.dyadic.specs.fx_model.Enclosure.{ordered_by, in_enclosure, enclosure_isotone}
-use Rattle.dyadic.specs.fx_model.Enclosure.{enclosure_unique, enclosure_ordered}
+use Rattle.fx_model.specs.Fraction.{Fraction}
+use Rattle.fx_model.specs.Grid.{Bound, Below, At, Above, IsDown, IsUp}
+use Rattle.fx_model.specs.Enclosure.{Range, Lies, IsEnclosure, IsOrdered, Within, member_of}
+use Rattle.fx_model.specs.Enclosure.{ordered_by, in_enclosure, enclosure_isotone, enclosure_unique}
+use Rattle.fx_model.specs.Enclosure.{enclosure_ordered}
 use Rattle.grid_words.specs.Nearest.{down, up, down_is, up_is, down_grid, up_grid}
 use Rattle.grid_words.specs.Outward.{down_end, up_end, outward, outward_is}
 use Rattle.dyadic.specs.declared.number.End.{End}

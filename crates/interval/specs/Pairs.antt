@@ -1,7 +1,7 @@
 -- What lies in two intervals, in both and in either.
 use Rattle.std.specs.Prelude.{◌⊎◌, ◌↔◌}
-use Rattle.dyadic.specs.fx_model.Fraction.{Fraction}
-use Rattle.dyadic.specs.fx_model.Enclosure.{Range, Lies, IsEnclosure}
+use Rattle.fx_model.specs.Fraction.{Fraction}
+use Rattle.fx_model.specs.Enclosure.{Range, Lies, IsEnclosure}
 
 -- nothing lies in both
 abbrev pub AreApart : Range → Range → Type 0

@@ -2,14 +2,14 @@
 -- interval.
 use Rattle.std.specs.Prelude.{◌≡◌, ◌⊎◌, Bool, true, false, not, ◌&&◌, Option, Some, None, refl}
 use Rattle.std.proofs.Common.{sym, ap, ◌∙◌, subst, ⊎_elim}
-use Rattle.dyadic.specs.fx_model.Fraction.{Fraction, zero_ℚ, ◌≤ℚ◌, le_refl, le_antisymm}
-use Rattle.dyadic.specs.fx_model.Grid.{Bound, Below, At, Above}
-use Rattle.dyadic.specs.fx_model.Enclosure.{Range, IsOrdered, IsFrom, IsUpTo, Lies, BoundLe}
-use Rattle.dyadic.specs.fx_model.Enclosure.{IsEnclosure, IsInfimum, IsSupremum, Sums, Differences}
-use Rattle.dyadic.specs.fx_model.Enclosure.{Negations, Sizes, Products, Quotients}
-use Rattle.dyadic.specs.fx_model.Enclosure.{whole_line, IsNegation, IsSize, IsSum, IsDifference}
-use Rattle.dyadic.specs.fx_model.Enclosure.{IsProduct, IsQuotient, enclosure_unique, product_unique}
-use Rattle.dyadic.specs.fx_model.Enclosure.{enclosure_ordered}
+use Rattle.fx_model.specs.Fraction.{Fraction, zero_ℚ, ◌≤ℚ◌, le_refl, le_antisymm}
+use Rattle.fx_model.specs.Grid.{Bound, Below, At, Above, le_bound}
+use Rattle.fx_model.specs.Enclosure.{Range, IsOrdered, IsFrom, IsUpTo, Lies, BoundLe, IsEnclosure}
+use Rattle.fx_model.specs.Enclosure.{IsInfimum, IsSupremum, Sums, Differences, Negations, Sizes}
+use Rattle.fx_model.specs.Enclosure.{Products, Quotients, whole_line, IsNegation, IsSize, IsSum}
+use Rattle.fx_model.specs.Enclosure.{IsDifference, IsProduct, IsQuotient, enclosure_unique}
+use Rattle.fx_model.specs.Enclosure.{product_unique, enclosure_ordered}
+use Rattle.fx_model.specs.Enclosure.Unique.{both_or}
 use Rattle.grid_words.specs.Sums.{sum_range, sum_range_is, sum_range_ordered, difference_range}
 use Rattle.grid_words.specs.Sums.{difference_range_is, difference_range_ordered, negation_range}
 use Rattle.grid_words.specs.Sums.{negation_range_is, negation_range_ordered}
@@ -18,7 +18,6 @@ use Rattle.grid_words.specs.Outward.{outward, outward_exact}
 use Rattle.grid_words.specs.Products.{product_range, product_range_is, product_range_ordered}
 use Rattle.grid_words.specs.Products.{quotient_range, quotient_range_is, quotient_range_ordered}
 use Rattle.dyadic.specs.Ends.{bound_of}
-use Rattle.dyadic.specs.Order.{le_bound}
 use Rattle.dyadic.specs.Compared.{BoundLe_in, BoundLe_out}
 use Rattle.dyadic.specs.Values.{value_of, zero_number, on_grid}
 use Rattle.dyadic.specs.declared.number.Dyadic.{Dyadic}
@@ -28,7 +27,6 @@ use Rattle.interval.specs.declared.interval.Interval.{Interval}
 use Rattle.interval.specs.Intervals.{range_of, same_range}
 use Rattle.interval.specs.Literals.{Alone}
 use Rattle.interval.specs.Decided.{made, made-some, made-none, made_out}
-use Rattle.dyadic.specs.fx_model.Enclosure.Unique.{both_or}
 
 -- the ends of a range are in order, and of the grid where they are finite
 pub record IsGridRange (r : Range) : Type 0 where

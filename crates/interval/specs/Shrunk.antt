@@ -1,21 +1,21 @@
 -- The least interval of the multiples in an interval, from its ends moved to multiples.
+use lib.IntN.{neg_ℤ}
 use Rattle.std.specs.Prelude.{◌≡◌, ℤ, pos, ◌+ℤ◌}
 use Rattle.std.proofs.Common.{arith, refl, sym, subst, ap, ◌∙◌}
 use Rattle.std.proofs.lemmas.Int.{ints}
-use lib.IntN.{neg_ℤ}
-use Rattle.dyadic.specs.fx_model.Fraction.{Fraction, ◌*ℚ◌, ◌≤ℚ◌, ◌+ℚ◌, ◌-ℚ◌, zero_ℚ, one_ℚ, neg_ℚ}
-use Rattle.dyadic.specs.fx_model.Fraction.{le_trans, le_refl, lt_le, lt_not, mul_assoc, mul_comm}
-use Rattle.dyadic.specs.fx_model.Fraction.{one-mul, floor_ℚ, minus_one, plus_one}
-use Rattle.dyadic.specs.fx_model.Powers.{whole, two_to, scaled, IsMultiple, scaled-zero, two_to-add}
-use Rattle.dyadic.specs.fx_model.Powers.{two_to-pos, two_to-positive, one-whole, floor_low}
-use Rattle.dyadic.specs.fx_model.Grid.{Bound, Below, At, Above, scaled-neg, neg_over}
-use Rattle.dyadic.specs.fx_model.Enclosure.{Range, IsFrom, IsUpTo, Lies, MultiplesIn, IsInfimum}
-use Rattle.dyadic.specs.fx_model.Enclosure.{IsSupremum, IsEnclosure, IsOrdered, infimum_at}
-use Rattle.dyadic.specs.fx_model.Enclosure.{supremum_at, member_of, ordered_by, deep, far, low_lies}
-use Rattle.dyadic.specs.fx_model.Enclosure.{high_lies, lower_up_to, higher_from}
+use Rattle.fx_model.specs.Fraction.{Fraction, ◌*ℚ◌, ◌≤ℚ◌, ◌+ℚ◌, ◌-ℚ◌, zero_ℚ, one_ℚ, neg_ℚ}
+use Rattle.fx_model.specs.Fraction.{le_trans, le_refl, lt_le, lt_not, mul_assoc, mul_comm, one-mul}
+use Rattle.fx_model.specs.Fraction.{floor_ℚ, minus_one, plus_one}
+use Rattle.fx_model.specs.Powers.{whole, two_to, scaled, IsMultiple, scaled-zero, two_to-add}
+use Rattle.fx_model.specs.Powers.{two_to-pos, two_to-positive, one-whole, floor_low}
+use Rattle.fx_model.specs.Grid.{Bound, Below, At, Above, scaled-neg, neg_over}
+use Rattle.fx_model.specs.Enclosure.{Range, IsFrom, IsUpTo, Lies, MultiplesIn, IsInfimum}
+use Rattle.fx_model.specs.Enclosure.{IsSupremum, IsEnclosure, IsOrdered, infimum_at, supremum_at}
+use Rattle.fx_model.specs.Enclosure.{member_of, ordered_by, deep, far, low_lies, high_lies}
+use Rattle.fx_model.specs.Enclosure.{lower_up_to, higher_from}
+use Rattle.grid_words.specs.Signs.{times_up}
 use Rattle.dyadic.specs.Made.{IsGridBound}
 use Rattle.interval.specs.Multiples.{IsEndDown, IsEndUp}
-use Rattle.grid_words.specs.Signs.{times_up}
 
 -- ---- the ends moved to multiples keep the multiples
 from_up : (k : ℤ) (b c : Bound) (x : Fraction) → IsEndUp k b c → IsMultiple k x

@@ -1,7 +1,7 @@
 -- Intervals with two finite ends.
 use Rattle.std.specs.Prelude.{◌≡◌, Option, Some, None}
-use Rattle.dyadic.specs.fx_model.Grid as grid
-use Rattle.dyadic.specs.fx_model.Enclosure.{Range, IsFinite}
+use Rattle.fx_model.specs.Grid as grid
+use Rattle.fx_model.specs.Enclosure.{Range, IsFinite}
 use Rattle.dyadic.specs.Values.{value_of}
 use Rattle.interval.specs.declared.interval.Interval.{Interval}
 use Rattle.interval.specs.declared.span.Span.{Span}

@@ -1,7 +1,7 @@
 -- The ends of a square, from the ends of the absolute values.
 use Rattle.std.specs.Prelude.{◌≡◌}
-use Rattle.dyadic.specs.fx_model.Fraction.{◌*ℚ◌}
-use Rattle.dyadic.specs.fx_model.Grid.{Bound, Below, At, Above, IsDown, IsUp}
+use Rattle.fx_model.specs.Fraction.{◌*ℚ◌}
+use Rattle.fx_model.specs.Grid.{Bound, Below, At, Above, IsDown, IsUp}
 
 -- the square of a finite end, rounded down; the square's lower end is infinite where the end is
 abbrev pub LowSquare : Bound → Bound → Type 0

@@ -1,6 +1,6 @@
 -- That an operation has one result.
 use Rattle.std.specs.Prelude.{◌≡◌}
-use Rattle.dyadic.specs.fx_model.Enclosure.{Range}
+use Rattle.fx_model.specs.Enclosure.{Range}
 
 -- no two intervals have the property
 abbrev pub IsOnly : (Range → Type 0) → Type 0

@@ -1,25 +1,25 @@
 -- The value of a literal as a whole number over a power of ten, and the set that a number makes
 -- alone.
+use lib.IntN.{neg_ℤ}
 use Rattle.std.specs.Prelude.{◌≡◌, ℕ, ℤ, pos, negsuc, ◌*◌, ◌*ℤ◌, ◌+◌, ◌^◌, ◌<◌, ◌<ℤ◌, ◌≤ℤ◌, Bool}
 use Rattle.std.specs.Prelude.{true, false}
 use Rattle.std.proofs.Common.{arith, refl, sym, subst, ap, ◌∙◌, ◌≤◌, to_z, of_z, w32}
 use Rattle.std.specs.Int.RustNames.{unsigned_abs}
 use Rattle.std.proofs.lemmas.Int.{ints}
 use Rattle.std.proofs.Math.Nat.{pow-le-pow_right}
-use lib.IntN.{neg_ℤ}
-use Rattle.dyadic.specs.fx_model.Fraction.{Fraction, ◌*ℚ◌, ◌≤ℚ◌, zero_ℚ, one_ℚ, neg_ℚ, inverse_ℚ}
-use Rattle.dyadic.specs.fx_model.Fraction.{le_refl, mul_comm, mul_assoc, one-mul, mul-inverse}
-use Rattle.dyadic.specs.fx_model.Powers.{whole, two_to, scaled, whole-mul, one-whole}
-use Rattle.dyadic.specs.fx_model.Grid.{Bound, IsDown, IsUp, signed, scaled-neg}
-use Rattle.dyadic.specs.fx_model.Enclosure.{IsEnclosure, IsOrdered, infimum_at, supremum_at}
-use Rattle.dyadic.specs.fx_model.Enclosure.{enclosure_ordered}
-use Rattle.dyadic.specs.fx_model.Expression.{literal_value, ten_to}
-use Rattle.dyadic.specs.fx_model.declared.Literal.{Literal}
+use Rattle.fx_model.specs.Fraction.{Fraction, ◌*ℚ◌, ◌≤ℚ◌, zero_ℚ, one_ℚ, neg_ℚ, inverse_ℚ, le_refl}
+use Rattle.fx_model.specs.Fraction.{mul_comm, mul_assoc, one-mul, mul-inverse, mul-neg}
+use Rattle.fx_model.specs.Powers.{whole, two_to, scaled, whole-mul, one-whole}
+use Rattle.fx_model.specs.Grid.{Bound, IsDown, IsUp, signed, scaled-neg}
+use Rattle.fx_model.specs.Enclosure.{IsEnclosure, IsOrdered, infimum_at, supremum_at}
+use Rattle.fx_model.specs.Enclosure.{enclosure_ordered}
+use Rattle.fx_model.specs.Expression.{literal_value, ten_to}
+use Rattle.fx_model.specs.declared.Literal.{Literal}
+use Rattle.grid_words.specs.Signs.{not_zero}
 use Rattle.literal.specs.Normal.{IsNormal}
 use Rattle.literal.specs.Limits.{bounded}
-use Rattle.interval.specs.Literals.{Alone}
 use Rattle.literal.specs.Tens.{whole_positive, pow_positive}
-use Rattle.grid_words.specs.Signs.{mul-neg, not_zero}
+use Rattle.interval.specs.Literals.{Alone}
 
 -- ---- the value as a quotient
 parts_up : (l : Literal) (k n : ℕ) → l.ten ≡ pos k → n ≡ l.num * 10 ^ k

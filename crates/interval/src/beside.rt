@@ -1,14 +1,14 @@
 // Whether 0 and 1 lie in an interval, and on which side of 0 it stands.
 ghost use Rattle.std.specs.Prelude.{◌≡◌, ◌↔◌, not, IsTrue};
-ghost use Rattle.dyadic.specs.fx_model.Fraction.{zero_ℚ, one_ℚ};
-ghost use Rattle.dyadic.specs.fx_model.Grid as grid;
-ghost use Rattle.dyadic.specs.Order.{le_bound};
+ghost use Rattle.fx_model.specs.Fraction.{zero_ℚ, one_ℚ};
+ghost use Rattle.fx_model.specs.Grid as grid;
+ghost use Rattle.fx_model.specs.Grid.{le_bound};
 
 use crate::ends::one;
 use crate::interval::Interval;
 
 impl Interval {
-    ghost use Rattle.dyadic.specs.fx_model.Enclosure.{Lies};
+    ghost use Rattle.fx_model.specs.Enclosure.{Lies};
     ghost use Rattle.interval.specs.Intervals.{range_of};
     ghost use Rattle.interval.specs.Results.{has_zero};
     ghost use Rattle.interval.specs.Members.{has_one};

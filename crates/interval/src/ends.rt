@@ -1,10 +1,10 @@
 // Single ends.
 ghost use Rattle.std.specs.Prelude.{◌≡◌};
-ghost use Rattle.dyadic.specs.fx_model.Grid.{neg_bound};
-ghost use Rattle.dyadic.specs.fx_model.Enclosure.{LowSum, HighSum};
+ghost use Rattle.fx_model.specs.Grid.{neg_bound};
+ghost use Rattle.fx_model.specs.Enclosure.{LowSum, HighSum};
+ghost use Rattle.fx_model.specs.Fraction.{zero_ℚ, one_ℚ};
+ghost use Rattle.fx_model.specs.Grid as grid;
 ghost use Rattle.dyadic.specs.Ends.{bound_of};
-ghost use Rattle.dyadic.specs.fx_model.Fraction.{zero_ℚ, one_ℚ};
-ghost use Rattle.dyadic.specs.fx_model.Grid as grid;
 ghost use Rattle.interval.specs.Squares.{LowSquare, HighSquare};
 ghost use Rattle.interval.specs.Ends.{IsNumberOf};
 

@@ -17,10 +17,10 @@ pub struct Interval {
 }
 
 impl Interval {
-    ghost use Rattle.dyadic.specs.fx_model.Enclosure.{Negations, Sizes, IsNegation, IsSize};
-    ghost use Rattle.dyadic.specs.fx_model.Enclosure.{IsSquare, IsSum, IsDifference, IsProduct};
-    ghost use Rattle.dyadic.specs.fx_model.Enclosure.{Quotients, IsQuotient, IsEnclosure};
-    ghost use Rattle.dyadic.specs.fx_model.Enclosure.{Within, Lies};
+    ghost use Rattle.fx_model.specs.Enclosure.{Negations, Sizes, IsNegation, IsSize};
+    ghost use Rattle.fx_model.specs.Enclosure.{IsSquare, IsSum, IsDifference, IsProduct};
+    ghost use Rattle.fx_model.specs.Enclosure.{Quotients, IsQuotient, IsEnclosure};
+    ghost use Rattle.fx_model.specs.Enclosure.{Within, Lies};
     ghost use Rattle.interval.specs.Intervals.{range_of};
     ghost use Rattle.interval.specs.Spans.{IsSpan, span_of};
     ghost use Rattle.interval.specs.Exact.{IsExact};
@@ -28,7 +28,7 @@ impl Interval {
     ghost use Rattle.interval.specs.Results.{product_of, quotient_of};
     ghost use Rattle.interval.specs.Meets.{interval_from, common_of, hull_of};
     ghost use Rattle.interval.specs.Pairs.{AreApart, IsCommon, IsHull};
-    ghost use Rattle.dyadic.specs.fx_model.Fraction.{zero_ℚ, ◌<ℚ◌};
+    ghost use Rattle.fx_model.specs.Fraction.{zero_ℚ, ◌<ℚ◌};
     ghost use Rattle.dyadic.specs.Values.{value_of};
 
     /// The interval with these ends. None where the lower end is plus infinity, the upper is

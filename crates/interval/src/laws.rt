@@ -1,6 +1,6 @@
 // What holds of all intervals, for callers to cite. Nothing here is done at run time.
-ghost use Rattle.dyadic.specs.fx_model.Enclosure.{Range, IsNegation, IsSize, IsSquare, IsSum};
-ghost use Rattle.dyadic.specs.fx_model.Enclosure.{IsDifference, IsProduct, IsQuotient};
+ghost use Rattle.fx_model.specs.Enclosure.{Range, IsNegation, IsSize, IsSquare, IsSum};
+ghost use Rattle.fx_model.specs.Enclosure.{IsDifference, IsProduct, IsQuotient};
 ghost use Rattle.interval.specs.Pairs.{IsHull};
 ghost use Rattle.interval.specs.Unique.{IsOnly};
 

@@ -1,11 +1,6 @@
 //! Outward intervals: the least interval with grid ends that holds every result.
 #![tactic(auto)]
 
-// What callers name of the crates below.
-pub use dyadic::{
-    Direction, Dyadic, End, ExprId, Literal, Points, Rounding, greater, halve_between, part_down,
-};
-pub use literal::{LiteralFault, fix_of, read_bytes};
 
 mod beside;
 mod ends;

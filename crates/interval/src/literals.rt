@@ -1,19 +1,20 @@
 // Literals as intervals.
+ghost use lib.IntN.{neg_ℤ};
 ghost use Rattle.std.specs.Prelude.{◌≡◌, ◌≤◌, ◌<◌, ◌≤ℤ◌, pos, negsuc, true, false};
 ghost use Rattle.std.specs.Int.RustNames.{unsigned_abs};
-ghost use lib.IntN.{neg_ℤ};
-ghost use Rattle.dyadic.specs.fx_model.Fraction.{Fraction, ◌*ℚ◌};
-ghost use Rattle.dyadic.specs.fx_model.Powers.{whole, scaled};
-ghost use Rattle.dyadic.specs.fx_model.Grid.{signed};
-ghost use Rattle.dyadic.specs.fx_model.Enclosure.{IsEnclosure};
-ghost use Rattle.dyadic.specs.fx_model.Expression.{literal_value};
+ghost use Rattle.fx_model.specs.Fraction.{Fraction, ◌*ℚ◌};
+ghost use Rattle.fx_model.specs.Powers.{whole, scaled};
+ghost use Rattle.fx_model.specs.Grid.{signed};
+ghost use Rattle.fx_model.specs.Enclosure.{IsEnclosure};
+ghost use Rattle.fx_model.specs.Expression.{literal_value};
 ghost use Rattle.literal.specs.Normal.{IsNormal};
 ghost use Rattle.interval.specs.Intervals.{range_of};
 ghost use Rattle.interval.specs.Literals.{Alone};
 ghost use Rattle.interval.specs.Results.{point_of};
 
 use crate::interval::Interval;
-use dyadic::{Literal, ratio_down, ratio_up};
+use fx_model::Literal;
+use dyadic::{ratio_down, ratio_up};
 
 /// The least interval that holds the literal's value, or its negative.
 #[inline(always)]

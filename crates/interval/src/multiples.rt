@@ -12,8 +12,8 @@ use dyadic::{Dyadic, End};
 
 impl Interval {
     ghost use Rattle.std.specs.Prelude.{◌↔◌, IsNone, IfSome};
-    ghost use Rattle.dyadic.specs.fx_model.Fraction.{Fraction};
-    ghost use Rattle.dyadic.specs.fx_model.Enclosure.{MultiplesIn, IsEnclosure};
+    ghost use Rattle.fx_model.specs.Fraction.{Fraction};
+    ghost use Rattle.fx_model.specs.Enclosure.{MultiplesIn, IsEnclosure};
     ghost use Rattle.interval.specs.Intervals.{range_of};
 
     /// The least interval that holds its multiples of 2^k. None where it holds none.

@@ -1,8 +1,8 @@
 // Signs, and ends that make an interval.
 ghost use Rattle.std.specs.Prelude.{◌↔◌, IsTrue};
-ghost use Rattle.dyadic.specs.fx_model.Fraction.{◌≤ℚ◌, zero_ℚ};
-ghost use Rattle.dyadic.specs.fx_model.Grid as grid;
-ghost use Rattle.dyadic.specs.fx_model.Enclosure.{BoundLe};
+ghost use Rattle.fx_model.specs.Fraction.{◌≤ℚ◌, zero_ℚ};
+ghost use Rattle.fx_model.specs.Grid as grid;
+ghost use Rattle.fx_model.specs.Enclosure.{BoundLe};
 ghost use Rattle.dyadic.specs.Values.{value_of};
 ghost use Rattle.dyadic.specs.Ends.{bound_of};
 ghost use Rattle.interval.specs.Ends.{AreEnds};

@@ -1,5 +1,5 @@
 // The ends of a product. Each is taken at a corner that the signs determine, or at one of two.
-ghost use Rattle.dyadic.specs.fx_model.Enclosure.{Products, IsInfimum, IsSupremum};
+ghost use Rattle.fx_model.specs.Enclosure.{Products, IsInfimum, IsSupremum};
 ghost use Rattle.dyadic.specs.Ends.{bound_of};
 ghost use Rattle.interval.specs.Spans.{span_of};
 

@@ -1,7 +1,7 @@
 // Quotients by numbers of one sign, and the ends of those by numbers above 0.
-ghost use Rattle.dyadic.specs.fx_model.Fraction.{zero_ℚ, ◌<ℚ◌};
-ghost use Rattle.dyadic.specs.fx_model.Enclosure.{Range, Lies, Quotients, IsInfimum, IsSupremum};
-ghost use Rattle.dyadic.specs.fx_model.Enclosure.{IsEnclosure};
+ghost use Rattle.fx_model.specs.Fraction.{zero_ℚ, ◌<ℚ◌};
+ghost use Rattle.fx_model.specs.Enclosure.{Range, Lies, Quotients, IsInfimum, IsSupremum};
+ghost use Rattle.fx_model.specs.Enclosure.{IsEnclosure};
 ghost use Rattle.dyadic.specs.Values.{value_of};
 ghost use Rattle.dyadic.specs.Ends.{bound_of};
 ghost use Rattle.interval.specs.Spans.{span_of};

@@ -1,6 +1,6 @@
 // Single intervals.
 ghost use Rattle.std.specs.Prelude.{◌≡◌};
-ghost use Rattle.dyadic.specs.fx_model.Fraction.{zero_ℚ, one_ℚ};
+ghost use Rattle.fx_model.specs.Fraction.{zero_ℚ, one_ℚ};
 ghost use Rattle.dyadic.specs.Values.{value_of};
 
 use crate::ends::zero;
@@ -8,7 +8,7 @@ use crate::interval::Interval;
 use dyadic::{Dyadic, End};
 
 impl Interval {
-    ghost use Rattle.dyadic.specs.fx_model.Enclosure.{IsEnclosure, whole_line};
+    ghost use Rattle.fx_model.specs.Enclosure.{IsEnclosure, whole_line};
     ghost use Rattle.interval.specs.Intervals.{range_of};
     ghost use Rattle.interval.specs.Literals.{Alone};
     ghost use Rattle.interval.specs.Results.{point_of, whole_interval, half_line};

@@ -1,6 +1,6 @@
 ghost use Rattle.std.specs.Prelude.{◌≡◌};
-ghost use Rattle.dyadic.specs.fx_model.Fraction.{◌≤ℚ◌, Le-prop, neg_ℚ};
-ghost use Rattle.dyadic.specs.fx_model.Enclosure.{mirror};
+ghost use Rattle.fx_model.specs.Fraction.{◌≤ℚ◌, Le-prop, neg_ℚ};
+ghost use Rattle.fx_model.specs.Enclosure.{mirror};
 ghost use Rattle.dyadic.specs.Values.{value_of};
 
 use dyadic::Dyadic;

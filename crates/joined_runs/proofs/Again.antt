@@ -1,27 +1,27 @@
 -- What `prove` wrote, `check` answers.
 use Rattle.std.specs.Prelude.{◌≡◌, ◌≤◌, ◌⊎◌, ◌^◌, List, length, Option, Some, None, IfSome}
 use Rattle.std.proofs.Common.{inl, inr, refl, sym, ◌∙◌, subst}
+use Rattle.fx_edge.specs.Outside.{Rose}
+use Rattle.goals.specs.declared.line.Line.{Line}
+use Rattle.script_grammar.specs.Spells.{View}
+use Rattle.settler.specs.Answers.{Options}
 use Rattle.cert_bytes.specs.declared.style.Style.TheVariants.{First}
 use Rattle.cert_bytes.specs.Reading.{cursor}
 use Rattle.cert_checker.specs.Contexts.{Context}
 use Rattle.cert_checker.specs.Outcomes.{accepted, SpelledAreAccepted}
-use Rattle.check_command.specs.Checked.{IsChecked, CheckPrints}
-use Rattle.check_command.specs.Command.{CheckFate}
-use Rattle.check_command.specs.Laws.{CheckAnswersAreOne}
+use Rattle.script_checker.specs.Checking.{ComesFor, AreAcceptedFor}
 use Rattle.command_line.specs.Check.{AskedCheck}
 use Rattle.command_line.specs.Reading.{Asked}
 use Rattle.command_runs.specs.Fates.{Left, Leaves, Makes, Written, IsTold, EndsIn, Comes}
-use Rattle.fx_edge.specs.Outside.{Rose}
 use Rattle.command_runs.specs.Fates.Left.{Whole}
 use Rattle.command_runs.specs.Runs.{Bytes, Run, Puts}
 use Rattle.command_runs.specs.declared.status.Status.TheVariants as status
-use Rattle.joined_runs.specs.Laws.{HasWritten, HasChecked, WrittenAreAnswered}
-use Rattle.goals.specs.declared.line.Line.{Line}
-use Rattle.prove_command.specs.Command.{IsCutOff, IsCertificateOf, MakesFor, ProveFate}
 use Rattle.script_answers.specs.Answers.{IsAnswered, options_of}
-use Rattle.check_command.specs.script_checker.Checking.{ComesFor, AreAcceptedFor}
-use Rattle.program_truths.specs.script_grammar.Spells.{View}
-use Rattle.script_answers.specs.settler.Answers.{Options}
+use Rattle.prove_command.specs.Command.{IsCutOff, IsCertificateOf, MakesFor, ProveFate}
+use Rattle.check_command.specs.Checked.{IsChecked, CheckPrints}
+use Rattle.check_command.specs.Command.{CheckFate}
+use Rattle.check_command.specs.Laws.{CheckAnswersAreOne}
+use Rattle.joined_runs.specs.Laws.{HasWritten, HasChecked, WrittenAreAnswered}
 
 -- a told text is the one that is told
 pub told_is : {t text : Bytes} (known : Option Bytes) → known ≡ Some text

@@ -1,20 +1,20 @@
 -- What `prove` answered holds at a point that `at` says to meet.
 use Rattle.std.specs.Prelude.{◌≡◌, List, Some, None}
 use Rattle.std.proofs.Common.{subst}
-use Rattle.at_command.specs.Command.{AtFate}
-use Rattle.at_command.specs.Laws.{MeetingIsMet}
-use Rattle.at_command.specs.Told.{AtPrints, IsEvaluated}
+use Rattle.script_grammar.specs.Spells.{View, Spells, SpellsOnce}
+use Rattle.point_values.specs.Rows.{Row, assignment_of}
+use Rattle.point_text.specs.Points.{SpellsPoint}
 use Rattle.command_line.specs.At.{AskedAt}
 use Rattle.command_runs.specs.Fates.{EndsIn}
 use Rattle.command_runs.specs.Runs.{Bytes, Run, Puts}
 use Rattle.command_runs.specs.declared.status.Status.TheVariants as status
+use Rattle.script_answers.specs.Answers.{IsAnswered, options_of}
+use Rattle.at_command.specs.Command.{AtFate}
+use Rattle.at_command.specs.Laws.{MeetingIsMet}
+use Rattle.at_command.specs.Told.{AtPrints, IsEvaluated}
 use Rattle.joined_runs.specs.Laws.{HasEvaluated, HoldsAtPoint, PointsAreHeld}
 use Rattle.joined_runs.proofs.Again.{told_is}
 use Rattle.joined_runs.proofs.Programs.{answered}
-use Rattle.at_command.specs.point_text.Points.{SpellsPoint}
-use Rattle.point_values.specs.Rows.{Row, assignment_of}
-use Rattle.script_answers.specs.Answers.{IsAnswered, options_of}
-use Rattle.program_truths.specs.script_grammar.Spells.{View, Spells, SpellsOnce}
 
 -- the script, the rows of the point, and the lines that were put
 evaluated : (b : AskedAt) (q : Run) (text point : Bytes) → HasEvaluated b q text point

@@ -1,22 +1,22 @@
 -- What `fix` wrote and `prove` answered, no run of the program wraps.
 use Rattle.std.specs.Prelude.{◌≡◌, Some}
 use Rattle.std.proofs.Common.{refl, subst}
+use Rattle.script_grammar.specs.Spells.{Spells as SpellsScript}
+use Rattle.fixprog.specs.First.{Spells}
+use Rattle.fixprog.specs.Grammar.{Program}
+use Rattle.fixprog.specs.Turned.{script_of}
+use Rattle.program_truths.specs.Outputs.{OutputsLie}
 use Rattle.command_line.specs.Fix.{AskedFix}
 use Rattle.command_line.specs.Reading.{Asked}
 use Rattle.command_runs.specs.Fates.{Leaves, EndsIn}
 use Rattle.command_runs.specs.Fates.Left.{Whole}
 use Rattle.command_runs.specs.Runs.{Bytes, Run, Puts}
 use Rattle.command_runs.specs.declared.status.Status.TheVariants as status
+use Rattle.script_answers.specs.Answers.{IsAnswered, options_of}
+use Rattle.prove_command.specs.Command.{ProveFate}
 use Rattle.fix_command.specs.Command.{FixFate}
-use Rattle.fixprog.specs.First.{Spells}
-use Rattle.fixprog.specs.Grammar.{Program}
-use Rattle.fixprog.specs.Turned.{script_of}
 use Rattle.joined_runs.specs.Laws.{HasFixed, HasProved, FixedProgramsAreSound}
 use Rattle.joined_runs.proofs.Again.{told_is}
-use Rattle.program_truths.specs.Outputs.{OutputsLie}
-use Rattle.prove_command.specs.Command.{ProveFate}
-use Rattle.script_answers.specs.Answers.{IsAnswered, options_of}
-use Rattle.program_truths.specs.script_grammar.Spells.{Spells as SpellsScript}
 
 -- the program that was turned, and its script
 turned : (f : AskedFix) (r : Run) (text script : Bytes) → HasFixed f r text script

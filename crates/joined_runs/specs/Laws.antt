@@ -1,8 +1,13 @@
 -- What a run leaves for another.
 use Rattle.std.specs.Prelude.{◌≡◌, ℤ, List, Some, codes}
-use Rattle.at_command.specs.Command.{IsAtRun}
-use Rattle.at_command.specs.Told.{IsEvaluated}
-use Rattle.check_command.specs.Command.{IsCheckRun}
+use Rattle.script_meets.specs.Held.{AreHeld}
+use Rattle.point_values.specs.Rows.{Row, assignment_of}
+use Rattle.point_eval.specs.Judged.{EndsIn}
+use Rattle.point_text.specs.Points.{SpellsPoint}
+use Rattle.fixprog.specs.Execution.{AreInRange}
+use Rattle.fixprog.specs.First.{Spells}
+use Rattle.fixprog.specs.Grammar.{Program}
+use Rattle.program_truths.specs.Outputs.{EndsWithin}
 use Rattle.command_line.specs.At.{AskedAt}
 use Rattle.command_line.specs.Check.{AskedCheck}
 use Rattle.command_line.specs.Fix.{AskedFix}
@@ -10,17 +15,12 @@ use Rattle.command_line.specs.Reading.{Asked}
 use Rattle.command_runs.specs.Fates.{Comes}
 use Rattle.command_runs.specs.Runs.{Bytes, Run, Puts}
 use Rattle.command_runs.specs.declared.status.Status.TheVariants as status
-use Rattle.fix_command.specs.Command.{IsFixRun}
-use Rattle.fixprog.specs.Execution.{AreInRange}
-use Rattle.fixprog.specs.First.{Spells}
-use Rattle.fixprog.specs.Grammar.{Program}
-use Rattle.at_command.specs.point_eval.Judged.{EndsIn}
-use Rattle.at_command.specs.point_text.Points.{SpellsPoint}
-use Rattle.point_values.specs.Rows.{Row, assignment_of}
-use Rattle.program_truths.specs.Outputs.{EndsWithin}
-use Rattle.prove_command.specs.Command.{IsProveRun}
 use Rattle.script_answers.specs.Answers.{IsAnswered, options_of}
-use Rattle.check_command.specs.script_meets.Held.{AreHeld}
+use Rattle.prove_command.specs.Command.{IsProveRun}
+use Rattle.check_command.specs.Command.{IsCheckRun}
+use Rattle.fix_command.specs.Command.{IsFixRun}
+use Rattle.at_command.specs.Command.{IsAtRun}
+use Rattle.at_command.specs.Told.{IsEvaluated}
 
 -- A run of `prove` was answered: of a script whose text the folder told, with a certificate in a
 -- told file, which holds these bytes now.

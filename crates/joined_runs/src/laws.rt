@@ -4,7 +4,8 @@ ghost use Rattle.joined_runs.specs.Laws.{FixedProgramsAreSound, PointsAreHeld, W
 use at_command::meeting_points_meet;
 use cert_checker::bytes_are_accepted;
 use check_command::check_answers_are_one;
-use program_truths::{no_run_wraps, script_or_refusal};
+use program_truths::no_run_wraps;
+use script_grammar::script_or_refusal;
 
 /// The law that `check` answers what `prove --cert` wrote with the lines that were printed then.
 /// Nothing is done.

@@ -1,4 +1,6 @@
 -- The parts of a literal are found in one way alone.
+use denote.Ref.{Bor}
+use borrow.Author.Tests.{eqb-true, eqb-false}
 use Rattle.std.proofs.Common.{◌≡◌, ◌≢◌, ℕ, ◌<◌, List, [], ◌∷◌, ◌++◌, length, eqb, Option, Some}
 use Rattle.std.proofs.Common.{None, Bool, true, false, refl, sym, ap, ap₂, subst, ◌∙◌, arith, lit<}
 use Rattle.std.proofs.Common.{lit≤}
@@ -8,8 +10,6 @@ use Rattle.literal.specs.declared.scan.Form.TheVariants.{Decimal, Binary, Hexade
 use Rattle.literal.specs.declared.scan.LiteralParts.{LiteralParts}
 use Rattle.literal.specs.Spelling.{Exponent, Spelling, opening, point_bytes, scale_bytes}
 use Rattle.literal.specs.Spelling.{body_bytes, is_hexadecimal, base, IsFraction, Spells}
-use denote.Ref.{Bor}
-use borrow.Author.Tests.{eqb-true, eqb-false}
 use Rattle.literal.specs.Parts.{FindsOne, BeginsWithNo, StandsBehind, StandsBehindOpening}
 use Rattle.literal.specs.Parts.{IsFrontDigits, Scale, IsScale, IsBody, FindsBody, FindsParts}
 use Rattle.literal.specs.Parts.{spelling_of}

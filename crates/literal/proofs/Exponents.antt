@@ -11,9 +11,8 @@ use Rattle.literal.specs.declared.scan.Power.{Power}
 use Rattle.literal.specs.Spelling.{Exponent, mark_bytes, exponent_bytes, letter, scale_bytes}
 use Rattle.literal.specs.Spelling.{is_hexadecimal, IsExponent}
 use Rattle.literal.specs.Parts.{IsUnmarked, SplitsMark, IsExponentText, FindsPower, FindsForm}
-use Rattle.literal.specs.Parts.{FindsScale, Scale, IsScale, IsFormOf}
+use Rattle.literal.specs.Parts.{FindsScale, Scale, IsScale, IsFormOf, IsFrontDigits}
 use Rattle.literal.proofs.Front.{clash, same_front}
-use Rattle.literal.specs.Parts.{IsFrontDigits}
 
 no_digit : (b c : ℕ) → b ≡ c → 10 ≤ digit_value c → digit_value b < 10 → ⊥
 no_digit b c e h k = let m : digit_value b ≡ digit_value c = ap digit_value e in

@@ -4,10 +4,10 @@ use Rattle.std.proofs.Common.{◌-ℤ◌, ◌*ℤ◌, ◌≤ℤ◌, refl, sym, a
 use Rattle.std.proofs.lemmas.Int.{ints, by_lt_z}
 use Rattle.std.proofs.Math.Nat.{pow-succ'}
 use Rattle.std.proofs.lemmas.Nat.{pow-add, mul-pow, mul-mod, mod-mul-add}
-use Rattle.fx_model.specs.Fraction.{◌*ℚ◌, ◌<ℚ◌, zero_ℚ, inverse_ℚ, mul-inverse, mul_comm}
-use Rattle.fx_model.specs.Fraction.{mul_assoc, mul_cancel, mul-one}
-use Rattle.fx_model.specs.Powers.{whole, two_to, scaled, scaled-shift, whole-mul}
-use Rattle.fx_model.specs.Powers.{IsMultiple, scaled-same}
+use Rattle.fx_model.specs.Fraction.{◌*ℚ◌, ◌<ℚ◌, zero_ℚ, inverse_ℚ, mul-inverse, mul_comm, mul_assoc}
+use Rattle.fx_model.specs.Fraction.{mul_cancel, mul-one}
+use Rattle.fx_model.specs.Powers.{whole, two_to, scaled, scaled-shift, whole-mul, IsMultiple}
+use Rattle.fx_model.specs.Powers.{scaled-same}
 use Rattle.fx_model.specs.Expression.{literal_value}
 use Rattle.fx_model.specs.Cut.Gaps.{gap_le}
 use Rattle.fx_model.specs.declared.Literal.{Literal}

@@ -5,9 +5,9 @@ use Rattle.std.proofs.Common.{le_trans, drop-cons, lit<, ⊎_elim}
 use Rattle.std.proofs.Math.Nat.{mul-le-mul_left, mul-le-mul_right, pow-le-pow_right}
 use Rattle.std.proofs.lemmas.Nat.{mul-le, mod-pow-add, shr_split}
 use Rattle.std.proofs.lemmas.Bool.{cases_lt}
-use Rattle.literal.specs.Tens.{pow_step}
 use Rattle.std.specs.Char.{digit_value}
 use Rattle.std.specs.Str.Parse.{digits_value, digits_value_after}
+use Rattle.literal.specs.Tens.{pow_step}
 
 pub after_step : (r n i : ℕ) (ds : List ℕ) → i < length ds → digits_value_after r n (drop i ds)
     ≡ digits_value_after r (n * r + digit_value (get_or ds i 0)) (drop (i + 1) ds)

@@ -1,9 +1,9 @@
 -- How the parts of a literal are found in a text.
+use denote.Ref.{Bor}
 use Rattle.std.specs.Prelude.{◌≡◌, ◌≢◌, ℕ, ◌≤◌, List, [], ◌∷◌, ◌++◌, Option, Some, None, Bool}
 use Rattle.std.specs.Prelude.{MatchOption, ℤ, pos, negsuc, ◌≤ℤ◌, ◌<ℤ◌, ◌⊎◌, ⊤}
 use Rattle.std.specs.Char.{digit_value}
 use Rattle.std.specs.Str.Parse.{AllDigits, IsNumeral}
-use denote.Ref.{Bor}
 use Rattle.fx_model.specs.declared.Literal.{Literal}
 use Rattle.literal.specs.declared.scan.Form.{Form}
 use Rattle.literal.specs.declared.scan.Mark.{Mark}

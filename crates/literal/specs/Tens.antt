@@ -6,8 +6,8 @@ use Rattle.std.proofs.Math.Nat.{one-le-pow, pow-succ', pow-le-pow_right}
 use Rattle.std.proofs.lemmas.Int.Digits.{digits_value-lt}
 use Rattle.std.specs.Str.Parse.{AllDigits, digits_value}
 use Rattle.fx_model.specs.Fraction.{Fraction, ◌*ℚ◌, ◌<ℚ◌, zero_ℚ, one_ℚ, ◌≤ℚ◌, inverse_ℚ}
-use Rattle.fx_model.specs.Fraction.{mul-inverse, mul_comm, mul_assoc, mul_cancel, mul-one}
-use Rattle.fx_model.specs.Fraction.{zero-mul, lt_not, le_refl}
+use Rattle.fx_model.specs.Fraction.{mul-inverse, mul_comm, mul_assoc, mul_cancel, mul-one, zero-mul}
+use Rattle.fx_model.specs.Fraction.{lt_not, le_refl}
 use Rattle.fx_model.specs.Powers.{whole, two_to, scaled-shift, whole-mul, whole-lt, zero-whole}
 use Rattle.fx_model.specs.Powers.{one-whole}
 use Rattle.fx_model.specs.Expression.{ten_to, literal_value}

@@ -1,8 +1,6 @@
 //! Literals of scripts: their spellings, normal forms, and the powers of two that divide them.
 #![tactic(auto)]
 
-// What callers name of the crates below.
-pub use fx_model::{Direction, ExprId, Node, Rounding};
 
 mod multiple;
 mod normal;

@@ -1,7 +1,7 @@
 //! The numbers that digits and exponents stand for.
 
-ghost use Rattle.std.specs.Prelude.{◌≤◌, ◌<◌, ◌++◌, ◌+◌, ◌^◌, pos, negsuc, ◌≤ℤ◌};
-ghost use Rattle.std.specs.Prelude.{SomeIff, IfSome, ◌*◌, []};
+ghost use Rattle.std.specs.Prelude.{◌≤◌, ◌<◌, ◌++◌, ◌+◌, ◌^◌, pos, negsuc, ◌≤ℤ◌, SomeIff, IfSome};
+ghost use Rattle.std.specs.Prelude.{◌*◌, []};
 ghost use Rattle.std.specs.Str.Parse.{AllDigits, digits_value, digits_value_after};
 ghost use Rattle.std.proofs.Common.{◌-ℤ◌};
 ghost use Rattle.literal.specs.Spelling.{IsSpelling, IsBetween, exponent_value};

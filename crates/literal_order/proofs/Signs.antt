@@ -1,10 +1,9 @@
 -- The order of numbers with their signs, by that of their sizes.
 use Rattle.std.proofs.Common.{◌≡◌, Bool, true, false, ◌&&◌, ◌||◌, IsTrue, ◌↔◌, refl, subst, ⊎_elim}
-use Rattle.interval.specs.fx_model.Fraction.{Fraction, ◌≤ℚ◌, ◌<ℚ◌, zero_ℚ, neg_ℚ, lt_by, lt_not}
-use Rattle.interval.specs.fx_model.Fraction.{le_or_lt, le_trans, le_lt_trans, lt_le_trans, neg-le}
-use Rattle.interval.specs.fx_model.Fraction.{neg-lt}
-use Rattle.interval.specs.fx_model.Grid.{signed}
-use Rattle.interval.specs.grid_words.Signs.{neg_zero, neg_up, neg_down}
+use Rattle.fx_model.specs.Fraction.{Fraction, ◌≤ℚ◌, ◌<ℚ◌, zero_ℚ, neg_ℚ, lt_by, lt_not, le_or_lt}
+use Rattle.fx_model.specs.Fraction.{le_trans, le_lt_trans, lt_le_trans, neg-le, neg-lt, neg_zero}
+use Rattle.fx_model.specs.Fraction.{neg_up, neg_down}
+use Rattle.fx_model.specs.Grid.{signed}
 
 neg-lt_out : (x y : Fraction) → neg_ℚ y <ℚ neg_ℚ x → x <ℚ y
 neg-lt_out x y l = lt_by x y (λ h. lt_not (neg_ℚ y) (neg_ℚ x) l (neg-le y x h))

@@ -1,9 +1,9 @@
 -- What literals with their signs stand for.
 use Rattle.std.specs.Prelude.{⊤, Option, Some, None}
-use Rattle.interval.specs.fx_model.Fraction.{Fraction}
-use Rattle.interval.specs.fx_model.Grid.{signed}
-use Rattle.interval.specs.fx_model.Expression.{literal_value}
-use Rattle.interval.specs.literal.Normal.{IsNormal}
+use Rattle.fx_model.specs.Fraction.{Fraction}
+use Rattle.fx_model.specs.Grid.{signed}
+use Rattle.fx_model.specs.Expression.{literal_value}
+use Rattle.literal.specs.Normal.{IsNormal}
 use Rattle.literal_order.specs.declared.written.Written.{Written}
 
 -- the literal's value, or the negative of it

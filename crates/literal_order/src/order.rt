@@ -1,14 +1,14 @@
 //! The order of literals, by what they stand for.
 
 ghost use Rattle.std.specs.Prelude.{◌≡◌, ◌↔◌, ◌<◌, ◌&&◌, ◌||◌, ◌≤ℤ◌, ◌+ℤ◌, pos, negsuc, IsTrue};
-ghost use Rattle.interval.specs.fx_model.Fraction.{◌*ℚ◌, ◌≤ℚ◌, ◌<ℚ◌, zero_ℚ};
-ghost use Rattle.interval.specs.fx_model.Powers.{whole, scaled};
-ghost use Rattle.interval.specs.fx_model.Grid.{signed};
-ghost use Rattle.interval.specs.fx_model.Expression.{literal_value};
-ghost use Rattle.interval.specs.literal.Normal.{IsNormal};
+ghost use Rattle.fx_model.specs.Fraction.{◌*ℚ◌, ◌≤ℚ◌, ◌<ℚ◌, zero_ℚ};
+ghost use Rattle.fx_model.specs.Powers.{whole, scaled};
+ghost use Rattle.fx_model.specs.Grid.{signed};
+ghost use Rattle.fx_model.specs.Expression.{literal_value};
+ghost use Rattle.literal.specs.Normal.{IsNormal};
 
 use crate::wide::{is_below_raised, is_raised_below, product};
-use interval::Literal;
+use fx_model::Literal;
 
 // A literal's value as number * 2^two / divisor.
 #[derive(Clone, Copy)]

@@ -1,12 +1,13 @@
 //! Literals with their signs.
 
 ghost use Rattle.std.specs.Prelude.{◌≡◌, ◌↔◌, IsTrue, Some};
-ghost use Rattle.interval.specs.fx_model.Fraction.{◌<ℚ◌};
+ghost use Rattle.fx_model.specs.Fraction.{◌<ℚ◌};
 ghost use Rattle.interval.specs.Results.{point_of};
 ghost use Rattle.literal_order.specs.Values.{written_value, IsWritten};
 
 use crate::order::is_below;
-use interval::{Interval, Literal, enclose};
+use interval::{Interval, enclose};
+use fx_model::Literal;
 
 /// A number as it is written: a literal, or its negative.
 #[derive(Clone, Copy, Debug, PartialEq, Eq)]

@@ -4,8 +4,7 @@ ghost use Rattle.std.specs.Prelude.{None, IfOk, OnOk, IfErr};
 ghost use Rattle.name_list.specs.declared.fault.ListStop.TheVariants as stop;
 ghost use Rattle.name_list.specs.declared.fault.ListFault.{ListFault};
 ghost use Rattle.name_list.specs.Order.{earlier};
-ghost use Rattle.name_list.specs.Lists.{IsFaultOf, empty_fault, lines_of};
-ghost use Rattle.name_list.specs.Lists.{long_fault, plain_fault};
+ghost use Rattle.name_list.specs.Lists.{IsFaultOf, empty_fault, lines_of, long_fault, plain_fault};
 
 use crate::fault::{ListFault, ListKind, ListStop, earlier};
 use crate::lines::line_fault;

@@ -5,37 +5,37 @@ use Rattle.std.specs.List.{AllByRecursion}
 use Rattle.std.specs.Str.{bytes_eq}
 use Rattle.std.proofs.lemmas.Slice.Eq.{bytes_eq-Decides}
 use Rattle.std.proofs.lemmas.Bool.{or_parts}
-use Rattle.script_judge.specs.fx_model.declared.Rounding.{Rounding}
-use Rattle.script_judge.specs.fx_model.declared.ExprId.{ExprId}
-use Rattle.script_judge.specs.script_words.declared.class.Spelled.TheVariants as spelled
-use Rattle.script_judge.specs.script_words.declared.class.Symbol.TheVariants as s
-use Rattle.script_judge.specs.script_words.Words.{Word, name, rounding, sign}
-use Rattle.script_judge.specs.script_shape.declared.due.Due.{Due}
-use Rattle.script_judge.specs.script_shape.declared.due.Due.TheVariants as d
-use Rattle.script_judge.specs.script_shape.Tree.{AnyName, plain, operator, Whole, natural, opposite}
-use Rattle.script_judge.specs.script_shape.Tree.{Operator, fixed, int, How, exactly, rounded_by}
-use Rattle.script_judge.specs.script_shape.Tree.{rounded_apart, rounded_joined, Definition}
-use Rattle.script_judge.specs.script_shape.Tree.{names_operator, names_value}
-use Rattle.script_judge.specs.script_shape.Roles.{Leaf, at, name_leaves, whole_leaves}
-use Rattle.script_judge.specs.script_shape.Roles.{operator_leaves, how_leaves, expr_leaves}
-use Rattle.script_judge.specs.script_shape.Roles.{definition_leaves}
-use Rattle.script_judge.specs.script_shape.Inner.{EachRole, IsInner, each_of_both, each_as}
-use Rattle.script_judge.specs.script_shape.Inner.{digits_roles, special_roles, expr_inner}
+use Rattle.fx_model.specs.declared.Rounding.{Rounding}
+use Rattle.fx_model.specs.declared.ExprId.{ExprId}
+use Rattle.facts.specs.CommonParts.{all_last}
+use Rattle.script_words.specs.declared.class.Spelled.TheVariants as spelled
+use Rattle.script_words.specs.declared.class.Symbol.TheVariants as s
+use Rattle.script_words.specs.Words.{Word, name, rounding, sign}
+use Rattle.script_shape.specs.declared.due.Due.{Due}
+use Rattle.script_shape.specs.declared.due.Due.TheVariants as d
+use Rattle.script_shape.specs.Expressions.{AnyName, plain, operator, Whole, natural, opposite}
+use Rattle.script_shape.specs.Expressions.{Operator, fixed, int}
+use Rattle.script_shape.specs.Tree.{How, exactly, rounded_by, rounded_apart, rounded_joined}
+use Rattle.script_shape.specs.Tree.{Definition, names_operator, names_value}
+use Rattle.script_shape.specs.Roles.{Leaf, at, name_leaves, whole_leaves, operator_leaves}
+use Rattle.script_shape.specs.Roles.{how_leaves, expr_leaves, definition_leaves}
+use Rattle.script_shape.specs.Inner.{EachRole, IsInner, each_of_both, each_as, digits_roles}
+use Rattle.script_shape.specs.Inner.{special_roles, expr_inner}
+use Rattle.script_cases.specs.Parts.{nothing as nothing_read}
 use Rattle.script_judge.specs.Names.{Name, is_among, is_some_among, is_used, is_used_before_end}
 use Rattle.script_judge.specs.Names.{defines, with_some, ended, operand_name, split_name}
 use Rattle.script_judge.specs.Bounds.{is_bad_bound}
 use Rattle.script_judge.specs.Numbers.{Notes, has_no_pieces}
 use Rattle.script_judge.specs.Subject.{Subject, nothing, node_of, other, Alias, aliases_after}
 use Rattle.script_judge.specs.Splits.{is_rangeless, is_bad_point}
-use Rattle.script_judge.specs.script_cases.Parts.{nothing as nothing_read}
-use Rattle.script_judge.specs.Judge.{Seen, seen_after, has_arrow, is_on_wrong_side, form_kind}
-use Rattle.script_judge.specs.Judge.{form_refusal, limit_refusal, refusal_at, nothing_seen, fails}
-use Rattle.script_judge.specs.Judge.{both_none}
-use Rattle.script_hints.specs.script_nodes.Known.{Known, PlacedNode, entry_of, with_entry}
-use Rattle.script_hints.specs.script_nodes.Operators.{rounding_of}
-use Rattle.script_hints.specs.script_nodes.Values.{expr_value}
-use Rattle.script_hints.specs.script_nodes.Definitions.{name_text, rounding_by, with_value}
-use Rattle.script_hints.specs.script_nodes.Definitions.{with_operator, definition_value}
+use Rattle.script_judge.specs.Judge.{Seen, seen_after, is_on_wrong_side, form_kind, form_refusal}
+use Rattle.script_judge.specs.Judge.{limit_refusal, refusal_at, nothing_seen, fails, both_none}
+use Rattle.script_judge.specs.Sides.{has_arrow}
+use Rattle.script_nodes.specs.Known.{Known, PlacedNode, entry_of, with_entry}
+use Rattle.script_nodes.specs.Operators.{rounding_of}
+use Rattle.script_nodes.specs.Values.{expr_value}
+use Rattle.script_nodes.specs.Definitions.{name_text, rounding_by, with_value, with_operator}
+use Rattle.script_nodes.specs.Definitions.{definition_value}
 use Rattle.node_counts.proofs.There.{itself_eq}
 use Rattle.node_counts.proofs.Kept.{Among, IsMore, more_some, SubjectAmong, IsKept}
 use Rattle.node_counts.proofs.Passing.{Passes, passes_both, passes_kept}
@@ -45,7 +45,6 @@ use Rattle.node_counts.proofs.Plain.{words_silent, inner_plain, inner_no_range, 
 use Rattle.node_counts.proofs.Plain.{word_ranges}
 use Rattle.node_counts.proofs.Subjects.{bare, subject_by, expr_said, Says, expr_says, IsTied, Tied}
 use Rattle.node_counts.proofs.Subjects.{tied_later}
-use Rattle.script_judge.specs.facts.CommonParts.{all_last}
 
 -- ---- a value joins
 

@@ -1,35 +1,35 @@
 -- The range that the judge finds behind an expression is that of the claim.
 use Rattle.std.proofs.Common.{◌≡◌, ◌⊎◌, ℕ, nat_lt, inl, inr, List, [], ◌∷◌, Option, Some, None}
-use Rattle.std.proofs.Common.{Bool, true, false, ◌&&◌, if◌then◌else◌, refl, sym, ap, ◌∙◌}
-use Rattle.std.proofs.Common.{subst}
+use Rattle.std.proofs.Common.{Bool, true, false, ◌&&◌, if◌then◌else◌, refl, sym, ap, ◌∙◌, subst}
 use Rattle.std.proofs.lemmas.Bool.{not-false, or_parts}
-use Rattle.script_judge.specs.fx_model.Fraction.{Fraction, le_ℚ}
-use Rattle.script_judge.specs.fx_model.Expression.{literal_value}
-use Rattle.script_judge.specs.fx_model.Grid.{signed}
-use Rattle.script_judge.specs.fx_model.Enclosure.{Range, IsOrdered, Lies, IsEnclosure}
-use Rattle.script_judge.specs.fx_model.declared.ExprId.{ExprId}
-use Rattle.script_judge.specs.dyadic.declared.number.Dyadic.{Dyadic}
-use Rattle.script_judge.specs.dyadic.declared.number.End.{End}
-use Rattle.script_judge.specs.dyadic.declared.number.End.TheVariants as end
-use Rattle.script_judge.specs.dyadic.Ends.{bound_of}
-use Rattle.script_judge.specs.interval.declared.interval.Interval.{Interval}
-use Rattle.script_judge.specs.interval.Intervals.{range_of}
-use Rattle.script_judge.specs.interval.Results.{point_of}
-use Rattle.script_judge.specs.interval.Meets.{interval_from_out}
-use Rattle.script_judge.specs.facts.Conclusions.{bnd_of}
-use Rattle.script_judge.specs.literal.Spelling.{IsLiteral, IsWithin, written}
-use Rattle.script_judge.specs.literal.Normal.{IsReading, IsPastLimits}
-use Rattle.script_judge.specs.literal_order.declared.written.Written.{Written}
-use Rattle.script_judge.specs.literal_order.Values.{written_value}
-use Rattle.script_judge.specs.script_bounds.Texts.{IsNumber}
-use Rattle.script_judge.specs.script_bounds.Tests.{number_at, down_number, up_number}
-use Rattle.script_judge.specs.script_words.declared.class.Symbol.TheVariants as s
-use Rattle.script_judge.specs.script_words.Words.{Word, literal, sign}
-use Rattle.script_judge.specs.script_shape.declared.due.Due.{Due}
-use Rattle.script_judge.specs.script_shape.declared.due.Due.TheVariants as d
-use Rattle.script_judge.specs.script_shape.Tree.{Bound, unsigned, positive, negative}
-use Rattle.script_judge.specs.script_shape.Tree.{Range as Brackets, asked, between}
-use Rattle.script_judge.specs.script_shape.Roles.{Leaf, at, bound_leaves, range_leaves}
+use Rattle.fx_model.specs.Fraction.{Fraction, le_ℚ}
+use Rattle.fx_model.specs.Expression.{literal_value}
+use Rattle.fx_model.specs.Grid.{signed}
+use Rattle.fx_model.specs.Enclosure.{Range, IsOrdered, Lies, IsEnclosure}
+use Rattle.fx_model.specs.declared.ExprId.{ExprId}
+use Rattle.literal.specs.Spelling.{IsLiteral, IsWithin, written}
+use Rattle.literal.specs.Normal.{IsReading, IsPastLimits}
+use Rattle.dyadic.specs.declared.number.Dyadic.{Dyadic}
+use Rattle.dyadic.specs.declared.number.End.{End}
+use Rattle.dyadic.specs.declared.number.End.TheVariants as end
+use Rattle.dyadic.specs.Ends.{bound_of}
+use Rattle.interval.specs.declared.interval.Interval.{Interval}
+use Rattle.interval.specs.Intervals.{range_of}
+use Rattle.interval.specs.Results.{point_of}
+use Rattle.interval.specs.Meets.{interval_from_out}
+use Rattle.literal_order.specs.declared.written.Written.{Written}
+use Rattle.literal_order.specs.Values.{written_value}
+use Rattle.facts.specs.Conclusions.{bnd_of}
+use Rattle.script_words.specs.declared.class.Symbol.TheVariants as s
+use Rattle.script_words.specs.Words.{Word, literal, sign}
+use Rattle.script_shape.specs.declared.due.Due.{Due}
+use Rattle.script_shape.specs.declared.due.Due.TheVariants as d
+use Rattle.script_shape.specs.Expressions.{Bound, unsigned, positive, negative}
+use Rattle.script_shape.specs.Propositions.{Range as Brackets, asked, between}
+use Rattle.script_shape.specs.Roles.{Leaf, at, bound_leaves, range_leaves}
+use Rattle.script_bounds.specs.Texts.{IsNumber}
+use Rattle.script_bounds.specs.Tests.{number_at, down_number, up_number}
+use Rattle.script_bounds.specs.Bounds.{written_range, outward_of}
 use Rattle.script_judge.specs.Names.{is_some_among, is_used, defines, split_name}
 use Rattle.script_judge.specs.Bounds.{is_crossed, is_bad_bound, is_some_too_low, IsBoundOf}
 use Rattle.script_judge.specs.Numbers.{Notes, Tells, has_no_pieces}
@@ -38,9 +38,8 @@ use Rattle.script_judge.specs.Splits.{Ends, ends_at, ends_between, ranges_after,
 use Rattle.script_judge.specs.Splits.{is_rangeless, is_bad_point}
 use Rattle.script_judge.specs.Judge.{Seen, seen_after, is_on_wrong_side, form_kind, form_refusal}
 use Rattle.script_judge.specs.Judge.{limit_refusal, refusal_at, fails, both_none}
-use Rattle.script_hints.specs.script_nodes.Literals.{literal_of, LiteralsAreTold, SpelledOnce}
-use Rattle.script_hints.specs.script_nodes.Written.{bound_written}
-use Rattle.script_hints.specs.script_bounds.Bounds.{written_range, outward_of}
+use Rattle.script_nodes.specs.Literals.{literal_of, LiteralsAreTold, SpelledOnce}
+use Rattle.script_nodes.specs.Written.{bound_written}
 use Rattle.script_claims.specs.declared.claim.Claim.TheVariants.{Bounded}
 use Rattle.script_claims.specs.Claims.{ranged}
 use Rattle.node_counts.specs.Ranges.{GivesRange}

@@ -1,33 +1,31 @@
 -- The words of a definition add no more nodes than are counted.
-use Rattle.std.proofs.Common.{◌≡◌, ℕ, ◌≤◌, List, [], ◌∷◌, ◌++◌, Some, None, true}
-use Rattle.std.proofs.Common.{refl, ap, ◌∙◌, subst, arith, append_assoc}
+use Rattle.std.proofs.Common.{◌≡◌, ℕ, ◌≤◌, List, [], ◌∷◌, ◌++◌, Some, None, true, refl, ap, ◌∙◌}
+use Rattle.std.proofs.Common.{subst, arith, append_assoc}
 use Rattle.std.specs.Str.{bytes_eq}
-use Rattle.script_judge.specs.script_words.declared.class.Spelled.TheVariants as spelled
-use Rattle.script_judge.specs.script_words.declared.class.Symbol.TheVariants as s
-use Rattle.script_judge.specs.script_words.Words.{Word, rounding, sign}
-use Rattle.script_judge.specs.script_words.Named.{nothing, pending}
-use Rattle.script_judge.specs.script_shape.declared.due.Due.{Due}
-use Rattle.script_judge.specs.script_shape.declared.due.Due.TheVariants as d
-use Rattle.script_judge.specs.script_shape.Tree.{AnyName, plain, operator, Whole, natural, opposite}
-use Rattle.script_judge.specs.script_shape.Tree.{Operator, fixed, int, Expr, How, exactly}
-use Rattle.script_judge.specs.script_shape.Tree.{rounded_by, rounded_apart, rounded_joined}
-use Rattle.script_judge.specs.script_shape.Tree.{Definition, names_operator, names_value}
-use Rattle.script_judge.specs.script_shape.Roles.{Leaf, at, name_leaves, whole_leaves}
-use Rattle.script_judge.specs.script_shape.Roles.{operator_leaves, how_leaves, expr_leaves}
-use Rattle.script_judge.specs.script_shape.Roles.{definition_leaves}
-use Rattle.script_judge.specs.script_shape.Inner.{EachRole, IsInner, each_of_both, each_as}
-use Rattle.script_judge.specs.script_shape.Inner.{digits_roles, special_roles, operator_rest}
-use Rattle.script_judge.specs.script_shape.Inner.{operator_roles, expr_inner}
+use Rattle.script_words.specs.declared.class.Spelled.TheVariants as spelled
+use Rattle.script_words.specs.declared.class.Symbol.TheVariants as s
+use Rattle.script_words.specs.Words.{Word, rounding, sign}
+use Rattle.script_words.specs.Named.{nothing, pending}
+use Rattle.script_shape.specs.declared.due.Due.{Due}
+use Rattle.script_shape.specs.declared.due.Due.TheVariants as d
+use Rattle.script_shape.specs.Expressions.{AnyName, plain, operator, Whole, natural, opposite}
+use Rattle.script_shape.specs.Expressions.{Operator, fixed, int, Expr}
+use Rattle.script_shape.specs.Tree.{How, exactly, rounded_by, rounded_apart, rounded_joined}
+use Rattle.script_shape.specs.Tree.{Definition, names_operator, names_value}
+use Rattle.script_shape.specs.Roles.{Leaf, at, name_leaves, whole_leaves, operator_leaves}
+use Rattle.script_shape.specs.Roles.{how_leaves, expr_leaves, definition_leaves}
+use Rattle.script_shape.specs.Inner.{EachRole, IsInner, each_of_both, each_as, digits_roles}
+use Rattle.script_shape.specs.Inner.{special_roles, operator_rest, operator_roles, expr_inner}
 use Rattle.script_judge.specs.Counts.{one_if}
 use Rattle.script_judge.specs.Names.{Name, is_among, with_some}
 use Rattle.script_judge.specs.Numbers.{Notes}
 use Rattle.script_judge.specs.Judge.{Seen, seen_after}
-use Rattle.script_hints.specs.script_nodes.Known.{Known}
-use Rattle.script_hints.specs.script_nodes.Operators.{rounding_of}
-use Rattle.script_hints.specs.script_nodes.Values.{expr_value}
-use Rattle.script_hints.specs.script_nodes.Definitions.{name_text, rounding_by, with_value}
-use Rattle.script_hints.specs.script_nodes.Definitions.{with_operator, definition_value}
-use Rattle.script_hints.specs.script_nodes.ReadingLaw.{ReadsTrees}
+use Rattle.script_nodes.specs.Known.{Known}
+use Rattle.script_nodes.specs.Operators.{rounding_of}
+use Rattle.script_nodes.specs.Values.{expr_value}
+use Rattle.script_nodes.specs.Definitions.{name_text, rounding_by, with_value, with_operator}
+use Rattle.script_nodes.specs.Definitions.{definition_value}
+use Rattle.script_nodes.specs.ReadingLaw.{ReadsTrees}
 use Rattle.node_counts.proofs.Marks.{AllFree, Marked, IsLow, IsOpen, IsFreeTo, nothing_words}
 use Rattle.node_counts.proofs.Marks.{pending_words, free_both}
 use Rattle.node_counts.proofs.Kept.{IsMore, IsKept}

@@ -1,21 +1,21 @@
 -- The words of an expression add no more nodes than are counted.
 use Rattle.std.proofs.Common.{◌≡◌, ℕ, ◌+◌, ◌≤◌, List, [], ◌∷◌, Option, Some, refl, sym, ap, ◌∙◌}
 use Rattle.std.proofs.Common.{subst, arith, append-nil}
-use Rattle.script_judge.specs.fx_model.declared.Rounding.{Rounding}
-use Rattle.script_judge.specs.script_words.Words.{Word}
-use Rattle.script_judge.specs.script_shape.declared.due.Due.{Due}
-use Rattle.script_judge.specs.script_shape.declared.due.Due.TheVariants as d
-use Rattle.script_judge.specs.script_shape.Tree.{Expr}
-use Rattle.script_judge.specs.script_shape.Roles.{Leaf, expr_leaves}
-use Rattle.script_judge.specs.script_shape.Inner.{EachRole, IsInner, expr_inner}
+use Rattle.fx_model.specs.declared.Rounding.{Rounding}
+use Rattle.script_words.specs.Words.{Word}
+use Rattle.script_shape.specs.declared.due.Due.{Due}
+use Rattle.script_shape.specs.declared.due.Due.TheVariants as d
+use Rattle.script_shape.specs.Expressions.{Expr}
+use Rattle.script_shape.specs.Roles.{Leaf, expr_leaves}
+use Rattle.script_shape.specs.Inner.{EachRole, IsInner, expr_inner}
 use Rattle.script_judge.specs.Counts.{one_if, nodes_at}
 use Rattle.script_judge.specs.Names.{Name, with_some, operand_name, is_some_apart}
 use Rattle.script_judge.specs.Numbers.{Notes}
 use Rattle.script_judge.specs.Judge.{Seen, seen_after}
-use Rattle.script_hints.specs.script_nodes.Known.{Known}
-use Rattle.script_hints.specs.script_nodes.Values.{expr_value}
-use Rattle.script_hints.specs.script_nodes.Waits.{Reading, Complete, read, read_all}
-use Rattle.script_hints.specs.script_nodes.ReadingLaw.{ReadsTrees}
+use Rattle.script_nodes.specs.Known.{Known}
+use Rattle.script_nodes.specs.Values.{expr_value}
+use Rattle.script_nodes.specs.Waits.{Reading, Complete, read, read_all}
+use Rattle.script_nodes.specs.ReadingLaw.{ReadsTrees}
 use Rattle.node_counts.proofs.Marks.{AllFree}
 use Rattle.node_counts.proofs.Sizes.{size}
 use Rattle.node_counts.proofs.Weights.{own, total, IsLeft, expr_total, read_total}

@@ -2,16 +2,15 @@
 use Rattle.std.proofs.Common.{◌≡◌, ℕ, ◌+◌, ◌≤◌, ◌<◌, nat_lt, List, [], ◌∷◌, ◌++◌, refl, ap, subst}
 use Rattle.std.proofs.Common.{arith, le_refl}
 use Rattle.std.proofs.lemmas.Bool.{lt-ltb}
-use Rattle.script_judge.specs.script_words.declared.class.Symbol.TheVariants as s
-use Rattle.script_judge.specs.script_words.Words.{sign}
-use Rattle.script_judge.specs.script_shape.declared.due.Due.TheVariants as d
-use Rattle.script_judge.specs.script_shape.Tree.{Bound, unsigned, positive, negative, Points}
-use Rattle.script_judge.specs.script_shape.Tree.{last_point, more_points, CutForm, in_four, pieces}
-use Rattle.script_judge.specs.script_shape.Tree.{at_points, Hint, rewrite, like, split, halving}
-use Rattle.script_judge.specs.script_shape.Tree.{Hints, no_hint, hint}
-use Rattle.script_judge.specs.script_shape.Roles.{Leaf, at, bound_leaves, name_leaves}
-use Rattle.script_judge.specs.script_shape.Roles.{points_leaves, cut_leaves, hint_leaves}
-use Rattle.script_judge.specs.script_shape.Roles.{hints_leaves}
+use Rattle.script_words.specs.declared.class.Symbol.TheVariants as s
+use Rattle.script_words.specs.Words.{sign}
+use Rattle.script_shape.specs.declared.due.Due.TheVariants as d
+use Rattle.script_shape.specs.Expressions.{Bound, unsigned, positive, negative}
+use Rattle.script_shape.specs.Hints.{Points, last_point, more_points, CutForm, in_four, pieces}
+use Rattle.script_shape.specs.Hints.{at_points, Hint, rewrite, like, split, halving, Hints, no_hint}
+use Rattle.script_shape.specs.Hints.{hint}
+use Rattle.script_shape.specs.Roles.{Leaf, at, bound_leaves, name_leaves, points_leaves, cut_leaves}
+use Rattle.script_shape.specs.Roles.{hint_leaves, hints_leaves}
 use Rattle.script_judge.specs.Counts.{one_if}
 use Rattle.script_judge.specs.Judge.{Seen, seen_after}
 use Rattle.node_counts.proofs.Passing.{Passes, passes_both}

@@ -1,20 +1,21 @@
 -- A script that the judge lets pass has few goals: each is a proposition, and those are counted.
 use Rattle.std.proofs.Common.{◌≡◌, ℕ, ◌+◌, ◌≤◌, List, [], ◌∷◌, length, true, refl, ap, ◌∙◌, subst}
 use Rattle.std.proofs.Common.{arith, le_refl}
-use Rattle.script_judge.specs.script_words.declared.class.Symbol.TheVariants as s
-use Rattle.script_judge.specs.script_words.Words.{Word, sign}
-use Rattle.script_judge.specs.script_shape.declared.due.Due.{Due}
-use Rattle.script_judge.specs.script_shape.declared.due.Due.TheVariants as d
-use Rattle.script_judge.specs.script_shape.Tree.{Prop, Stated, affirmed, denied, Formula, single}
-use Rattle.script_judge.specs.script_shape.Tree.{and, or, implies, Script, formula, define}
-use Rattle.script_judge.specs.script_shape.Roles.{Leaf, at, prop_leaves, stated_leaves}
-use Rattle.script_judge.specs.script_shape.Roles.{formula_leaves, definition_leaves, script_leaves}
-use Rattle.script_judge.specs.script_shape.Inner.{EachRole}
+use Rattle.script_words.specs.declared.class.Symbol.TheVariants as s
+use Rattle.script_words.specs.Words.{Word, sign}
+use Rattle.script_shape.specs.declared.due.Due.{Due}
+use Rattle.script_shape.specs.declared.due.Due.TheVariants as d
+use Rattle.script_shape.specs.Propositions.{Prop, Stated, affirmed, denied, Formula, single, and}
+use Rattle.script_shape.specs.Propositions.{or, implies}
+use Rattle.script_shape.specs.Tree.{Script, formula, define}
+use Rattle.script_shape.specs.Roles.{Leaf, at, prop_leaves, stated_leaves, formula_leaves}
+use Rattle.script_shape.specs.Roles.{definition_leaves, script_leaves}
+use Rattle.script_shape.specs.Inner.{EachRole}
 use Rattle.script_judge.specs.declared.counts.ScriptPart.TheVariants as place
 use Rattle.script_judge.specs.Counts.{one_if, is_first, begins_proposition}
 use Rattle.script_judge.specs.Judge.{Seen, seen_after, nothing_seen}
-use Rattle.script_hints.specs.script_nodes.Known.{Known}
-use Rattle.script_hints.specs.script_nodes.Definitions.{definition_value}
+use Rattle.script_nodes.specs.Known.{Known}
+use Rattle.script_nodes.specs.Definitions.{definition_value}
 use Rattle.script_claims.specs.Claims.{formula_claims}
 use Rattle.node_counts.specs.Few.{goals_behind, GoalsAreFew}
 use Rattle.node_counts.proofs.Passing.{Passes, passes_all, passes_both}

@@ -5,48 +5,47 @@ use Rattle.std.proofs.Common.{length-append, eq-eqb, ◌⊎◌, inl, inr}
 use Rattle.std.specs.List.{AllByRecursion, list_any}
 use Rattle.std.specs.Str.{bytes_eq}
 use Rattle.std.proofs.lemmas.Slice.Eq.{bytes_eq-Decides}
-use Rattle.script_judge.specs.fx_model.declared.ExprId.{ExprId}
-use Rattle.script_judge.specs.script_words.declared.class.Symbol.TheVariants as s
-use Rattle.script_judge.specs.script_words.Words.{Word, sign}
-use Rattle.script_judge.specs.script_shape.declared.due.Due.{Due}
-use Rattle.script_judge.specs.script_shape.declared.due.Due.TheVariants as d
-use Rattle.script_judge.specs.script_shape.Tree.{AnyName, plain, operator, Expr, Need, nonzero}
-use Rattle.script_judge.specs.script_shape.Tree.{below, not_above, above, not_below, NeedList}
-use Rattle.script_judge.specs.script_shape.Tree.{last_need, more_needs, Needs, always, provided}
-use Rattle.script_judge.specs.script_shape.Tree.{CutForm, Names, last_name, more_names, Halving}
-use Rattle.script_judge.specs.script_shape.Tree.{halved_by, with_goal, Hint, rewrite, like, split}
-use Rattle.script_judge.specs.script_shape.Tree.{halving, Hints, no_hint, hint, Prop, Stated}
-use Rattle.script_judge.specs.script_shape.Tree.{affirmed, denied, Formula, single, and, or}
-use Rattle.script_judge.specs.script_shape.Tree.{implies, How, exactly, rounded_by, rounded_apart}
-use Rattle.script_judge.specs.script_shape.Tree.{rounded_joined, Definition, names_operator}
-use Rattle.script_judge.specs.script_shape.Tree.{names_value, Script, formula, define}
-use Rattle.script_judge.specs.script_shape.Roles.{Leaf, expr_leaves, name_leaves, needs_leaves}
-use Rattle.script_judge.specs.script_shape.Roles.{cut_leaves, names_leaves, halving_leaves}
-use Rattle.script_judge.specs.script_shape.Roles.{hint_leaves, hints_leaves, operator_leaves}
-use Rattle.script_judge.specs.script_shape.Roles.{prop_leaves, stated_leaves, formula_leaves}
-use Rattle.script_judge.specs.script_shape.Roles.{how_leaves, definition_leaves, script_leaves}
-use Rattle.script_judge.specs.script_shape.Inner.{EachRole, IsInner, each_of_both, each_as}
-use Rattle.script_judge.specs.script_shape.Inner.{name_roles, operator_roles, expr_inner}
+use Rattle.fx_model.specs.declared.ExprId.{ExprId}
+use Rattle.facts.specs.CommonParts.{all_last}
+use Rattle.script_words.specs.declared.class.Symbol.TheVariants as s
+use Rattle.script_words.specs.Words.{Word, sign}
+use Rattle.script_shape.specs.declared.due.Due.{Due}
+use Rattle.script_shape.specs.declared.due.Due.TheVariants as d
+use Rattle.script_shape.specs.Expressions.{AnyName, plain, operator, Expr}
+use Rattle.script_shape.specs.Hints.{Need, nonzero, below, not_above, above, not_below, NeedList}
+use Rattle.script_shape.specs.Hints.{last_need, more_needs, Needs, always, provided, CutForm, Names}
+use Rattle.script_shape.specs.Hints.{last_name, more_names, Halving, halved_by, with_goal, Hint}
+use Rattle.script_shape.specs.Hints.{rewrite, like, split, halving, Hints, no_hint, hint}
+use Rattle.script_shape.specs.Propositions.{Prop, Stated, affirmed, denied, Formula, single, and}
+use Rattle.script_shape.specs.Propositions.{or, implies}
+use Rattle.script_shape.specs.Tree.{How, exactly, rounded_by, rounded_apart, rounded_joined}
+use Rattle.script_shape.specs.Tree.{Definition, names_operator, names_value, Script, formula}
+use Rattle.script_shape.specs.Tree.{define}
+use Rattle.script_shape.specs.Roles.{Leaf, expr_leaves, name_leaves, needs_leaves, cut_leaves}
+use Rattle.script_shape.specs.Roles.{names_leaves, halving_leaves, hint_leaves, hints_leaves}
+use Rattle.script_shape.specs.Roles.{operator_leaves, prop_leaves, stated_leaves, formula_leaves}
+use Rattle.script_shape.specs.Roles.{how_leaves, definition_leaves, script_leaves}
+use Rattle.script_shape.specs.Inner.{EachRole, IsInner, each_of_both, each_as, name_roles}
+use Rattle.script_shape.specs.Inner.{operator_roles, expr_inner}
 use Rattle.script_judge.specs.Names.{Name, is_among, split_name, halved_after}
 use Rattle.script_judge.specs.Numbers.{Notes}
-use Rattle.script_judge.specs.Judge.{Seen, seen_after, has_arrow, form_refusal, limit_refusal}
-use Rattle.script_judge.specs.Judge.{Judged, nothing_seen, both_none}
-use Rattle.script_hints.specs.script_nodes.Definitions.{definition_value}
+use Rattle.script_judge.specs.Judge.{Seen, seen_after, form_refusal, limit_refusal, Judged}
+use Rattle.script_judge.specs.Judge.{nothing_seen, both_none}
+use Rattle.script_judge.specs.Sides.{has_arrow}
+use Rattle.script_nodes.specs.Definitions.{definition_value, name_text}
+use Rattle.script_nodes.specs.Known.{Known, named}
+use Rattle.script_nodes.specs.Values.{expr_value}
 use Rattle.script_claims.specs.Claims.{formula_claims}
-use Rattle.node_counts.specs.Few.{hints_behind}
-use Rattle.node_counts.proofs.FewHints.{limits_hold, hints_of}
-use Rattle.node_counts.proofs.WordRoles.{IsOfProp, prop_roles, IsOfPart, needs_roles, cut_roles}
-use Rattle.script_hints.specs.script_nodes.Known.{Known, named}
-use Rattle.script_hints.specs.script_nodes.Values.{expr_value}
 use Rattle.script_hints.specs.Hints.{needs_value, NeedsSoFar, with_need, with_need_list}
 use Rattle.script_hints.specs.Hints.{same_number, with_variable, HintsSoFar, with_halved}
 use Rattle.script_hints.specs.Hints.{with_names, with_halving, with_hint, with_hints, no_hints}
-use Rattle.script_hints.specs.script_nodes.Definitions.{name_text}
+use Rattle.node_counts.specs.Few.{hints_behind}
+use Rattle.node_counts.proofs.FewHints.{limits_hold, hints_of}
+use Rattle.node_counts.proofs.WordRoles.{IsOfProp, prop_roles, IsOfPart, needs_roles, cut_roles}
 use Rattle.node_counts.proofs.There.{any_before, any_last}
 use Rattle.node_counts.proofs.Passing.{Passes, passes_all, passes_both}
 use Rattle.node_counts.proofs.Numbers.{HasNumber, Keeps, keeps_both, keeps_itself, named_keeps}
 use Rattle.node_counts.proofs.Numbers.{expr_keeps, named_has, number_once}
-use Rattle.script_judge.specs.facts.CommonParts.{all_last}
 
 -- ---- the judge lets no more than 4 pass
 

@@ -2,20 +2,21 @@
 use Rattle.std.proofs.Common.{◌≡◌, ℕ, ◌+◌, ◌≤◌, nat_lt, List, [], ◌∷◌, length, None, Bool, refl, ap}
 use Rattle.std.proofs.Common.{subst, arith, le_refl}
 use Rattle.std.proofs.lemmas.Bool.{ltb-false, or_parts}
-use Rattle.script_judge.specs.script_words.declared.class.Symbol.TheVariants as s
-use Rattle.script_judge.specs.script_words.Words.{sign}
-use Rattle.script_judge.specs.script_shape.declared.due.Due.TheVariants as d
-use Rattle.script_judge.specs.script_shape.Tree.{Prop, Stated, affirmed, denied, Formula, single}
-use Rattle.script_judge.specs.script_shape.Tree.{and, or, implies, Hints, no_hint, hint, Script}
-use Rattle.script_judge.specs.script_shape.Tree.{formula, define}
-use Rattle.script_judge.specs.script_shape.Roles.{Leaf, at, prop_leaves, stated_leaves}
-use Rattle.script_judge.specs.script_shape.Roles.{formula_leaves, hint_leaves, hints_leaves}
-use Rattle.script_judge.specs.script_shape.Roles.{definition_leaves, script_leaves}
+use Rattle.script_words.specs.declared.class.Symbol.TheVariants as s
+use Rattle.script_words.specs.Words.{sign}
+use Rattle.script_shape.specs.declared.due.Due.TheVariants as d
+use Rattle.script_shape.specs.Propositions.{Prop, Stated, affirmed, denied, Formula, single, and}
+use Rattle.script_shape.specs.Propositions.{or, implies}
+use Rattle.script_shape.specs.Hints.{Hints, no_hint, hint}
+use Rattle.script_shape.specs.Tree.{Script, formula, define}
+use Rattle.script_shape.specs.Roles.{Leaf, at, prop_leaves, stated_leaves, formula_leaves}
+use Rattle.script_shape.specs.Roles.{hint_leaves, hints_leaves, definition_leaves, script_leaves}
 use Rattle.script_judge.specs.declared.counts.Counts.{Counts}
 use Rattle.script_judge.specs.declared.counts.ScriptPart.TheVariants as place
 use Rattle.script_judge.specs.Counts.{one_if, begins_hint, place_after}
-use Rattle.script_judge.specs.Judge.{Seen, seen_after, has_arrow, form_refusal, limit_kind}
-use Rattle.script_judge.specs.Judge.{limit_refusal, Judged, nothing_seen, fails, both_none}
+use Rattle.script_judge.specs.Judge.{Seen, seen_after, form_refusal, limit_kind, limit_refusal}
+use Rattle.script_judge.specs.Judge.{Judged, nothing_seen, fails, both_none}
+use Rattle.script_judge.specs.Sides.{has_arrow}
 use Rattle.node_counts.proofs.Passing.{Passes, passes_all, passes_both}
 use Rattle.node_counts.proofs.WordRoles.{IsOfProp, prop_roles, IsOfHint, hint_roles}
 use Rattle.node_counts.proofs.Places.{HasFirst, prop_first, hint_first, prop_enters, prop_stays}

@@ -3,21 +3,20 @@ use Rattle.std.proofs.Common.{◌≡◌, ℕ, ◌+◌, ◌≤◌, ◌==◌, List
 use Rattle.std.proofs.Common.{false, ◌||◌, if◌then◌else◌, refl, ap, sym, subst, arith}
 use Rattle.std.proofs.Common.{length-append, eqb-true}
 use Rattle.std.specs.List.{AllByRecursion, list_any}
-use Rattle.script_judge.specs.fx_model.declared.ExprId.{ExprId}
-use Rattle.script_judge.specs.script_shape.Tree.{Names, last_name, more_names, Halving, halved_by}
-use Rattle.script_judge.specs.script_shape.Tree.{with_goal, Hint, rewrite, like, split, halving}
-use Rattle.script_judge.specs.script_shape.Tree.{Hints, no_hint, hint, Script, formula, define}
-use Rattle.script_hints.specs.script_nodes.Known.{Known, named}
-use Rattle.script_hints.specs.script_nodes.Values.{expr_value}
-use Rattle.script_hints.specs.script_nodes.Definitions.{definition_value}
+use Rattle.fx_model.specs.declared.ExprId.{ExprId}
+use Rattle.facts.specs.CommonParts.{all_last}
+use Rattle.script_shape.specs.Hints.{Names, last_name, more_names, Halving, halved_by, with_goal}
+use Rattle.script_shape.specs.Hints.{Hint, rewrite, like, split, halving, Hints, no_hint, hint}
+use Rattle.script_shape.specs.Tree.{Script, formula, define}
+use Rattle.script_nodes.specs.Known.{Known, named}
+use Rattle.script_nodes.specs.Values.{expr_value}
+use Rattle.script_nodes.specs.Definitions.{definition_value, name_text}
 use Rattle.script_claims.specs.Claims.{formula_claims}
 use Rattle.script_hints.specs.declared.hint.HintList.{HintList}
 use Rattle.script_hints.specs.Hints.{same_number, with_variable, halved, HintsSoFar, with_halved}
 use Rattle.script_hints.specs.Hints.{with_names, with_halving, with_hint, with_hints, no_hints}
-use Rattle.script_hints.specs.script_nodes.Definitions.{name_text}
 use Rattle.node_counts.specs.Few.{hints_behind}
 use Rattle.node_counts.proofs.FewHalves.{variable_there, variable_more, variable_length}
-use Rattle.script_judge.specs.facts.CommonParts.{all_last}
 
 abbrev IsIn : List ExprId → ExprId → Type 0
 IsIn xs x = list_any (same_number x) xs ≡ true

@@ -3,27 +3,28 @@ use Rattle.std.proofs.Common.{◌≡◌, ℕ, ◌+◌, ◌≤◌, nat_lt, List, 
 use Rattle.std.proofs.Common.{true, false, if◌then◌else◌, refl, arith, length-append}
 use Rattle.std.specs.List.{AllByRecursion}
 use Rattle.std.proofs.lemmas.Bool.{ltb-true}
-use Rattle.script_judge.specs.dyadic.declared.number.Dyadic.{Dyadic}
-use Rattle.script_judge.specs.dyadic.declared.number.End.{End}
-use Rattle.script_judge.specs.dyadic.declared.number.End.TheVariants as end
-use Rattle.script_judge.specs.interval.Results.{point_of}
-use Rattle.script_judge.specs.literal_order.Values.{written_value}
-use Rattle.script_judge.specs.script_shape.Tree.{Points, last_point, more_points, CutForm, in_four}
-use Rattle.script_judge.specs.script_shape.Tree.{pieces, at_points, Names, last_name, more_names}
-use Rattle.script_judge.specs.script_shape.Tree.{Halving, halved_by, with_goal, Hint, rewrite, like}
-use Rattle.script_judge.specs.script_shape.Tree.{split, halving, Hints, no_hint, hint, Script}
-use Rattle.script_judge.specs.script_shape.Tree.{formula, define}
-use Rattle.script_hints.specs.script_nodes.Known.{Known}
-use Rattle.script_hints.specs.script_nodes.Operators.{digits_text, number_of}
-use Rattle.script_hints.specs.script_nodes.Values.{expr_value}
-use Rattle.script_hints.specs.script_nodes.Definitions.{definition_value}
+use Rattle.dyadic.specs.declared.number.Dyadic.{Dyadic}
+use Rattle.dyadic.specs.declared.number.End.{End}
+use Rattle.dyadic.specs.declared.number.End.TheVariants as end
+use Rattle.interval.specs.Results.{point_of}
+use Rattle.literal_order.specs.Values.{written_value}
+use Rattle.facts.specs.CommonParts.{all_last}
+use Rattle.script_shape.specs.Hints.{Points, last_point, more_points, CutForm, in_four, pieces}
+use Rattle.script_shape.specs.Hints.{at_points, Names, last_name, more_names, Halving, halved_by}
+use Rattle.script_shape.specs.Hints.{with_goal, Hint, rewrite, like, split, halving, Hints, no_hint}
+use Rattle.script_shape.specs.Hints.{hint}
+use Rattle.script_shape.specs.Tree.{Script, formula, define}
+use Rattle.script_nodes.specs.Known.{Known}
+use Rattle.script_nodes.specs.Operators.{digits_text, number_of}
+use Rattle.script_nodes.specs.Values.{expr_value}
+use Rattle.script_nodes.specs.Definitions.{definition_value}
+use Rattle.script_nodes.specs.Written.{bound_written}
 use Rattle.script_claims.specs.Claims.{formula_claims}
 use Rattle.script_hints.specs.declared.hint.Split.{Split}
 use Rattle.script_hints.specs.declared.hint.HintList.{HintList}
 use Rattle.script_hints.specs.Hints.{with_end, with_points, piece_count, cutting_of, HintsSoFar}
 use Rattle.script_hints.specs.Hints.{with_halved, with_names, with_halving, with_hint, with_hints}
 use Rattle.script_hints.specs.Hints.{no_hints}
-use Rattle.script_hints.specs.script_nodes.Written.{bound_written}
 use Rattle.script_hints.specs.Few.{HasFewPieces}
 use Rattle.node_counts.specs.Few.{HasFewHints, hints_behind, HintsAreFew}
 use Rattle.node_counts.proofs.FewHints.{hint_count, hints_counted, hints_of, hints_pass, all_within}
@@ -31,7 +32,6 @@ use Rattle.node_counts.proofs.FewHalves.{halves_are_few}
 use Rattle.node_counts.proofs.FewOrdered.{order_is_short}
 use Rattle.node_counts.proofs.FewCuts.{is_cut, cut_count, cuts_counted, point_count, CutIsFew}
 use Rattle.node_counts.proofs.FewCuts.{HintIsFew, AreFew, hints_few}
-use Rattle.script_judge.specs.facts.CommonParts.{all_last}
 
 -- ---- pieces
 

@@ -1,22 +1,21 @@
 -- The words of a formula add no more nodes than are counted.
 use Rattle.std.proofs.Common.{◌≡◌, ◌+◌, ◌≤◌, List, [], ◌∷◌, Option, Some, None, refl, ap, subst}
 use Rattle.std.proofs.Common.{arith}
-use Rattle.script_judge.specs.fx_model.declared.ExprId.{ExprId}
-use Rattle.script_judge.specs.script_words.declared.class.Symbol.TheVariants as s
-use Rattle.script_judge.specs.script_words.Words.{Word, sign}
-use Rattle.script_judge.specs.script_shape.declared.due.Due.{Due}
-use Rattle.script_judge.specs.script_shape.declared.due.Due.TheVariants as d
-use Rattle.script_judge.specs.script_shape.Tree.{Prop, Stated, affirmed, denied, Formula, single}
-use Rattle.script_judge.specs.script_shape.Tree.{and, or, implies}
-use Rattle.script_judge.specs.script_shape.Roles.{Leaf, at, prop_leaves, stated_leaves}
-use Rattle.script_judge.specs.script_shape.Roles.{formula_leaves}
-use Rattle.script_judge.specs.script_shape.Inner.{EachRole, each_of_both, each_as}
+use Rattle.fx_model.specs.declared.ExprId.{ExprId}
+use Rattle.script_words.specs.declared.class.Symbol.TheVariants as s
+use Rattle.script_words.specs.Words.{Word, sign}
+use Rattle.script_shape.specs.declared.due.Due.{Due}
+use Rattle.script_shape.specs.declared.due.Due.TheVariants as d
+use Rattle.script_shape.specs.Propositions.{Prop, Stated, affirmed, denied, Formula, single, and}
+use Rattle.script_shape.specs.Propositions.{or, implies}
+use Rattle.script_shape.specs.Roles.{Leaf, at, prop_leaves, stated_leaves, formula_leaves}
+use Rattle.script_shape.specs.Inner.{EachRole, each_of_both, each_as}
 use Rattle.script_judge.specs.Counts.{nodes_at}
 use Rattle.script_judge.specs.Names.{with_some, operand_name, is_some_apart}
 use Rattle.script_judge.specs.Numbers.{Notes}
 use Rattle.script_judge.specs.Judge.{Seen, seen_after}
-use Rattle.script_hints.specs.script_nodes.Known.{Name, Known}
-use Rattle.script_hints.specs.script_nodes.Waits.{Reading, Complete, expr_done, read}
+use Rattle.script_nodes.specs.Known.{Name, Known}
+use Rattle.script_nodes.specs.Waits.{Reading, Complete, expr_done, read}
 use Rattle.script_claims.specs.declared.part.Part.{Part}
 use Rattle.script_claims.specs.declared.part.Part.TheVariants.{Nothing, Made}
 use Rattle.script_claims.specs.Claims.{no_claims, formula_claims}

@@ -1,18 +1,18 @@
 -- The words of hints add no more nodes than are counted.
 use Rattle.std.proofs.Common.{◌≡◌, ◌+◌, ◌≤◌, List, [], ◌∷◌, Bool, false, Option, Some, None, refl}
 use Rattle.std.proofs.Common.{ap, subst, arith}
-use Rattle.script_judge.specs.script_words.Words.{Word, name, rounding, literal, sign}
-use Rattle.script_judge.specs.script_shape.declared.due.Due.{Due}
-use Rattle.script_judge.specs.script_shape.declared.due.Due.TheVariants as d
-use Rattle.script_judge.specs.script_shape.Tree.{Hint, Hints, no_hint, hint}
-use Rattle.script_judge.specs.script_shape.Roles.{Leaf, hint_leaves, hints_leaves}
-use Rattle.script_judge.specs.script_shape.Inner.{EachRole, each_of_both, each_as}
+use Rattle.script_words.specs.Words.{Word, name, rounding, literal, sign}
+use Rattle.script_shape.specs.declared.due.Due.{Due}
+use Rattle.script_shape.specs.declared.due.Due.TheVariants as d
+use Rattle.script_shape.specs.Hints.{Hint, Hints, no_hint, hint}
+use Rattle.script_shape.specs.Roles.{Leaf, hint_leaves, hints_leaves}
+use Rattle.script_shape.specs.Inner.{EachRole, each_of_both, each_as}
 use Rattle.script_judge.specs.Counts.{nodes_at}
 use Rattle.script_judge.specs.Names.{is_among, with_some, operand_name, split_name, is_some_apart}
 use Rattle.script_judge.specs.Numbers.{Notes}
 use Rattle.script_judge.specs.Judge.{Seen, seen_after, refusal_at}
-use Rattle.script_hints.specs.script_nodes.Known.{Name, Known}
-use Rattle.script_hints.specs.script_nodes.Waits.{Complete, expr_done}
+use Rattle.script_nodes.specs.Known.{Name, Known}
+use Rattle.script_nodes.specs.Waits.{Complete, expr_done}
 use Rattle.script_hints.specs.Hints.{no_hints, with_hints}
 use Rattle.script_hints.specs.Reading.{HintReading, hints_from, ended_as, ended, variable_word}
 use Rattle.script_hints.specs.Reading.{read_hint, read_hints}

@@ -1,35 +1,38 @@
 -- The split variables of a script that the judge lets pass have ranges: those that the judge finds
 -- by their names.
-use Rattle.std.proofs.Common.{◌≡◌, inl, inr, List, [], ◌∷◌, ◌++◌, Some, None, Bool, true}
-use Rattle.std.proofs.Common.{false, if◌then◌else◌, refl, sym, ◌∙◌, subst, true≢false}
-use Rattle.std.proofs.Common.{arith}
+use Rattle.std.proofs.Common.{◌≡◌, inl, inr, List, [], ◌∷◌, ◌++◌, Some, None, Bool, true, false}
+use Rattle.std.proofs.Common.{if◌then◌else◌, refl, sym, ◌∙◌, subst, true≢false, arith}
 use Rattle.std.specs.List.{AllByRecursion, list_any}
 use Rattle.std.specs.Option.{is_some}
 use Rattle.std.specs.Str.{bytes_eq}
 use Rattle.std.proofs.lemmas.Slice.Eq.{bytes_eq-Decides}
-use Rattle.script_judge.specs.fx_model.declared.ExprId.{ExprId}
-use Rattle.script_judge.specs.script_words.declared.class.Symbol.TheVariants as s
-use Rattle.script_judge.specs.script_words.Words.{Word, name, rounding, sign}
-use Rattle.script_judge.specs.script_shape.declared.due.Due.{Due}
-use Rattle.script_judge.specs.script_shape.declared.due.Due.TheVariants as d
-use Rattle.script_judge.specs.script_shape.Tree.{AnyName, plain, operator, Expr, Names, last_name}
-use Rattle.script_judge.specs.script_shape.Tree.{more_names, Halving, halved_by, with_goal, Hint}
-use Rattle.script_judge.specs.script_shape.Tree.{rewrite, like, split, halving, Hints, no_hint}
-use Rattle.script_judge.specs.script_shape.Tree.{hint, Formula, Script, formula, define}
-use Rattle.script_judge.specs.script_shape.Roles.{Leaf, at, expr_leaves, name_leaves, cut_leaves}
-use Rattle.script_judge.specs.script_shape.Roles.{names_leaves, halving_leaves, hint_leaves}
-use Rattle.script_judge.specs.script_shape.Roles.{hints_leaves, formula_leaves, definition_leaves}
-use Rattle.script_judge.specs.script_shape.Roles.{script_leaves}
-use Rattle.script_judge.specs.script_shape.Inner.{EachRole, IsInner, each_as, name_roles}
-use Rattle.script_judge.specs.script_shape.Inner.{expr_inner}
+use Rattle.fx_model.specs.declared.ExprId.{ExprId}
+use Rattle.facts.specs.CommonParts.{all_last}
+use Rattle.script_words.specs.declared.class.Symbol.TheVariants as s
+use Rattle.script_words.specs.Words.{Word, name, rounding, sign}
+use Rattle.script_shape.specs.declared.due.Due.{Due}
+use Rattle.script_shape.specs.declared.due.Due.TheVariants as d
+use Rattle.script_shape.specs.Expressions.{AnyName, plain, operator, Expr}
+use Rattle.script_shape.specs.Hints.{Names, last_name, more_names, Halving, halved_by, with_goal}
+use Rattle.script_shape.specs.Hints.{Hint, rewrite, like, split, halving, Hints, no_hint, hint}
+use Rattle.script_shape.specs.Propositions.{Formula}
+use Rattle.script_shape.specs.Tree.{Script, formula, define}
+use Rattle.script_shape.specs.Roles.{Leaf, at, expr_leaves, name_leaves, cut_leaves, names_leaves}
+use Rattle.script_shape.specs.Roles.{halving_leaves, hint_leaves, hints_leaves, formula_leaves}
+use Rattle.script_shape.specs.Roles.{definition_leaves, script_leaves}
+use Rattle.script_shape.specs.Inner.{EachRole, IsInner, each_as, name_roles, expr_inner}
+use Rattle.script_cases.specs.Cases.{cases}
+use Rattle.script_cases.specs.Counted.{cases_are_counted, few_before}
+use Rattle.script_cases.specs.Met.{SomeOf}
+use Rattle.script_cases.specs.Parts.{Parts}
 use Rattle.script_judge.specs.Names.{Name}
 use Rattle.script_judge.specs.Numbers.{Notes}
 use Rattle.script_judge.specs.Splits.{SplitRange, range_of}
 use Rattle.script_judge.specs.Judge.{Seen, seen_after, nothing_seen}
-use Rattle.script_hints.specs.script_nodes.Literals.{LiteralsAreTold, SpelledOnce}
-use Rattle.script_hints.specs.script_nodes.Known.{Known, named}
-use Rattle.script_hints.specs.script_nodes.Values.{expr_value}
-use Rattle.script_hints.specs.script_nodes.Definitions.{name_text, definition_value}
+use Rattle.script_nodes.specs.Literals.{LiteralsAreTold, SpelledOnce}
+use Rattle.script_nodes.specs.Known.{Known, named}
+use Rattle.script_nodes.specs.Values.{expr_value}
+use Rattle.script_nodes.specs.Definitions.{name_text, definition_value}
 use Rattle.script_claims.specs.declared.claim.Claim.{Claim}
 use Rattle.script_claims.specs.Claims.{formula_claims}
 use Rattle.script_hints.specs.declared.hint.Split.{Split}
@@ -39,10 +42,6 @@ use Rattle.script_hints.specs.Hints.{with_hints, no_hints}
 use Rattle.node_counts.specs.Few.{hints_behind}
 use Rattle.node_counts.specs.Ranges.{HasRange, HaveRanges, HaveFewCases, parts_behind}
 use Rattle.node_counts.specs.Ranges.{SplitsHaveRanges}
-use Rattle.script_judge.specs.script_cases.Cases.{cases}
-use Rattle.script_judge.specs.script_cases.Counted.{cases_are_counted, few_before}
-use Rattle.script_judge.specs.script_cases.Met.{SomeOf}
-use Rattle.script_judge.specs.script_cases.Parts.{Parts}
 use Rattle.node_counts.proofs.Kept.{split_ranged, ranged_in}
 use Rattle.node_counts.proofs.Passing.{Passes, passes_both, passes_kept}
 use Rattle.node_counts.proofs.WordRoles.{IsOfPart, IsOfHint, cut_roles, hint_roles}
@@ -57,7 +56,6 @@ use Rattle.node_counts.proofs.Aliases.{Stands, nothing_stands, definition_stands
 use Rattle.node_counts.proofs.BoundRanges.{HaveIntervals, range_read}
 use Rattle.node_counts.proofs.PropRanges.{Ranged, IsConjunction, Each, cases_held, each_count}
 use Rattle.node_counts.proofs.PropRanges.{formula_formed}
-use Rattle.script_judge.specs.facts.CommonParts.{all_last}
 
 part_no_range : (r : Due) → IsOfPart r → IsNoRange r
 part_no_range d.Range h = h

@@ -1,15 +1,14 @@
 -- What holds of each item of parts that are being read.
-use Rattle.std.proofs.Common.{◌≡◌, ◌<◌, List, [], ◌∷◌, ◌++◌, length, sym, ap, ◌∙◌}
-use Rattle.std.proofs.Common.{subst, arith, append-nil}
+use Rattle.std.proofs.Common.{◌≡◌, ◌<◌, List, [], ◌∷◌, ◌++◌, length, sym, ap, ◌∙◌, subst, arith}
+use Rattle.std.proofs.Common.{append-nil}
 use Rattle.std.specs.List.{flat_map, AllByRecursion}
 use Rattle.std.proofs.lemmas.Grind.{flat_map-append}
 use Rattle.std.proofs.lemmas.List.{length-append}
 use Rattle.std.proofs.Math.Nat.{one-le-mul}
-use Rattle.script_judge.specs.script_cases.Cases.{cases, case_count, all_items}
-use Rattle.script_judge.specs.script_cases.Counted.{cases_are_counted}
-use Rattle.script_judge.specs.script_cases.Parts.{Parts, with_item, part_of, behind_or}
-use Rattle.script_judge.specs.script_cases.Parts.{behind_arrow}
-use Rattle.script_judge.specs.script_cases.Lists.{all_joined, all_front, all_behind, all_as}
+use Rattle.script_cases.specs.Cases.{cases, case_count, all_items}
+use Rattle.script_cases.specs.Counted.{cases_are_counted}
+use Rattle.script_cases.specs.Parts.{Parts, with_item, part_of, behind_or, behind_arrow}
+use Rattle.script_cases.specs.Lists.{all_joined, all_front, all_behind, all_as}
 
 pub record AllInParts {X : Type 0} (P : X → Type 0) (p : Parts X) : Type 0 where
   pub before : AllByRecursion P (all_items p.before)

@@ -1,19 +1,23 @@
 -- What the judge keeps: the limit of nodes, that names of operators are defined, and that a
 -- variable with a range is a name that was seen.
-use Rattle.std.proofs.Common.{◌≡◌, inl, inr, ℕ, ◌<◌, ◌≤◌, nat_lt, List, [], ◌∷◌, ◌++◌, length}
-use Rattle.std.proofs.Common.{map, Option, Some, None, Bool, true, false, not, ◌&&◌, ◌||◌}
-use Rattle.std.proofs.Common.{if◌then◌else◌, refl, sym, ap, ◌∙◌, subst, arith}
+use Rattle.std.proofs.Common.{◌≡◌, inl, inr, ℕ, ◌<◌, ◌≤◌, nat_lt, List, [], ◌∷◌, ◌++◌, length, map}
+use Rattle.std.proofs.Common.{Option, Some, None, Bool, true, false, not, ◌&&◌, ◌||◌, if◌then◌else◌}
+use Rattle.std.proofs.Common.{refl, sym, ap, ◌∙◌, subst, arith}
 use Rattle.std.specs.List.{AllByRecursion, list_any}
 use Rattle.std.specs.Option.{is_some}
 use Rattle.std.specs.Str.{bytes_eq}
 use Rattle.std.proofs.lemmas.Bool.{ltb-false, or_right, or_parts}
 use Rattle.std.proofs.lemmas.Slice.Eq.{bytes_eq-Decides}
-use Rattle.script_judge.specs.script_words.declared.class.Symbol.{Symbol}
-use Rattle.script_judge.specs.script_words.declared.class.Symbol.TheVariants as s
-use Rattle.script_judge.specs.script_words.Words.{Word, name, rounding, literal, sign}
-use Rattle.script_judge.specs.script_shape.declared.due.Due.{Due}
-use Rattle.script_judge.specs.script_shape.declared.due.Due.TheVariants as d
-use Rattle.script_judge.specs.script_shape.Roles.{Leaf}
+use Rattle.script_words.specs.declared.class.Symbol.{Symbol}
+use Rattle.script_words.specs.declared.class.Symbol.TheVariants as s
+use Rattle.script_words.specs.Words.{Word, name, rounding, literal, sign}
+use Rattle.script_shape.specs.declared.due.Due.{Due}
+use Rattle.script_shape.specs.declared.due.Due.TheVariants as d
+use Rattle.script_shape.specs.Roles.{Leaf}
+use Rattle.script_cases.specs.Cases.{cases}
+use Rattle.script_cases.specs.Counted.{all_of_cases}
+use Rattle.script_cases.specs.Met.{SomeOf}
+use Rattle.script_cases.specs.Parts.{Parts, begun_cases}
 use Rattle.script_judge.specs.declared.counts.Counts.{Counts}
 use Rattle.script_judge.specs.Names.{Name, is_among, is_some_among, is_used, defines, with_some}
 use Rattle.script_judge.specs.Names.{ended, operand_name, split_name, plain_text}
@@ -26,16 +30,13 @@ use Rattle.script_judge.specs.Splits.{parts_after, range_of, case_ranges, is_ran
 use Rattle.script_judge.specs.Splits.{is_bad_point}
 use Rattle.script_judge.specs.Splits as splits
 use Rattle.script_judge.specs.FewCases.{still_few}
-use Rattle.script_judge.specs.script_cases.Cases.{cases}
-use Rattle.script_judge.specs.script_cases.Counted.{all_of_cases}
-use Rattle.script_judge.specs.script_cases.Met.{SomeOf}
-use Rattle.script_judge.specs.script_cases.Parts.{Parts, begun_cases}
+use Rattle.script_judge.specs.Numbers.{Notes, has_no_pieces, is_past_lsb, is_past_pieces}
+use Rattle.script_judge.specs.Judge.{Seen, seen_after, is_on_wrong_side, form_kind, form_refusal}
+use Rattle.script_judge.specs.Judge.{limit_kind, is_past_cases, limit_refusal, refusal_at, fails}
+use Rattle.script_judge.specs.Judge.{both_none}
+use Rattle.script_judge.specs.Sides.{has_arrow}
 use Rattle.node_counts.proofs.InParts.{AllInParts, all_parts_as, item_in_parts, or_in_parts}
 use Rattle.node_counts.proofs.InParts.{arrow_in_parts, AreFilled, filled_more, some_case}
-use Rattle.script_judge.specs.Numbers.{Notes, has_no_pieces, is_past_lsb, is_past_pieces}
-use Rattle.script_judge.specs.Judge.{Seen, seen_after, has_arrow, is_on_wrong_side, form_kind}
-use Rattle.script_judge.specs.Judge.{form_refusal, limit_kind, is_past_cases, limit_refusal}
-use Rattle.script_judge.specs.Judge.{refusal_at, fails, both_none}
 
 -- ---- names that were seen
 

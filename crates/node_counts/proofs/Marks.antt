@@ -4,24 +4,24 @@ use Rattle.std.proofs.Common.{option_to_list, Bool, true, false, if◌then◌els
 use Rattle.std.proofs.Common.{subst, append-nil}
 use Rattle.std.proofs.lemmas.List.{length-map}
 use Rattle.std.proofs.Math.Seq.{take-length}
-use Rattle.script_judge.specs.script_words.declared.class.Class.{Class}
-use Rattle.script_judge.specs.script_words.declared.class.Class.TheVariants.{Sign}
-use Rattle.script_judge.specs.script_words.declared.class.Symbol.TheVariants as s
-use Rattle.script_judge.specs.script_words.declared.lex.Token.{Token}
-use Rattle.script_judge.specs.script_words.declared.lex.TokenKind.{TokenKind}
-use Rattle.script_judge.specs.script_words.declared.lex.TokenKind.TheVariants as kind
-use Rattle.script_judge.specs.script_words.Words.{Word, name, rounding, literal, sign, class_of}
-use Rattle.script_judge.specs.script_words.Named.{spelled_of, name_word, kind_word, token_text}
-use Rattle.script_judge.specs.script_words.Named.{token_word, Naming, nothing, after_at, after_name}
-use Rattle.script_judge.specs.script_words.Named.{pending, naming_after, defined_by, words_from}
-use Rattle.script_judge.specs.script_shape.declared.due.Due.{Due}
-use Rattle.script_judge.specs.script_shape.declared.due.Due.TheVariants as d
-use Rattle.script_judge.specs.script_shape.Tree.{Script, script_words}
-use Rattle.script_judge.specs.script_shape.Table.{takes, role_of}
-use Rattle.script_judge.specs.script_shape.Shape.{step, role_at_top, role_next, start}
-use Rattle.script_judge.specs.script_shape.ShapeLaw.{grown, roles_from, RolesAreUnique}
-use Rattle.script_judge.specs.script_shape.Roles.{Leaf, HasRoles, script_leaves, LeavesSpell}
-use Rattle.script_judge.specs.script_shape.Inner.{EachRole}
+use Rattle.script_words.specs.declared.class.Class.{Class}
+use Rattle.script_words.specs.declared.class.Class.TheVariants.{Sign}
+use Rattle.script_words.specs.declared.class.Symbol.TheVariants as s
+use Rattle.script_words.specs.declared.lex.Token.{Token}
+use Rattle.script_words.specs.declared.lex.TokenKind.{TokenKind}
+use Rattle.script_words.specs.declared.lex.TokenKind.TheVariants as kind
+use Rattle.script_words.specs.Words.{Word, name, rounding, literal, sign, class_of}
+use Rattle.script_words.specs.Named.{spelled_of, name_word, kind_word, token_text, token_word}
+use Rattle.script_words.specs.Named.{Naming, nothing, after_at, after_name, pending, naming_after}
+use Rattle.script_words.specs.Named.{defined_by, words_from}
+use Rattle.script_shape.specs.declared.due.Due.{Due}
+use Rattle.script_shape.specs.declared.due.Due.TheVariants as d
+use Rattle.script_shape.specs.Tree.{Script, script_words}
+use Rattle.script_shape.specs.Table.{takes, role_of}
+use Rattle.script_shape.specs.Shape.{step, role_at_top, role_next, start}
+use Rattle.script_shape.specs.ShapeLaw.{grown, roles_from, RolesAreUnique}
+use Rattle.script_shape.specs.Roles.{Leaf, HasRoles, script_leaves, LeavesSpell}
+use Rattle.script_shape.specs.Inner.{EachRole}
 use Rattle.script_judge.specs.Names.{Name, is_among}
 
 -- ---- the signs `=`, `;` and `@` have roles of their own

@@ -3,23 +3,21 @@ use Rattle.std.proofs.Common.{◌≡◌, ℕ, List, [], ◌∷◌, ◌++◌, Opt
 use Rattle.std.proofs.Common.{if◌then◌else◌, refl, sym, ap, ◌∙◌, subst}
 use Rattle.std.specs.List.{list_any, position_or_len}
 use Rattle.std.specs.Str.{bytes_eq}
-use Rattle.script_judge.specs.fx_model.declared.Rounding.{Rounding}
-use Rattle.script_judge.specs.fx_model.declared.ExprId.{ExprId}
-use Rattle.script_judge.specs.fx_model.declared.Node.{Node}
-use Rattle.script_judge.specs.fx_model.declared.Node.TheVariants.{Var, Neg, Add, Mul, Abs, Round}
-use Rattle.script_hints.specs.expr_dag.Nodes.{same_node, place_of, placed, with_node}
-use Rattle.script_hints.specs.expr_dag.Same.{itself}
-use Rattle.script_judge.specs.script_shape.Tree.{Expr, term, sum, difference, Term, factor, product}
-use Rattle.script_judge.specs.script_shape.Tree.{quotient, Factor, negation, atom, Atom, number}
-use Rattle.script_judge.specs.script_shape.Tree.{variable, parenthesized, absolute, called, rounded}
-use Rattle.script_judge.specs.script_shape.Tree.{fused}
-use Rattle.script_hints.specs.script_nodes.Known.{Name, Known, PlacedNode, entry_of, put}
-use Rattle.script_hints.specs.script_nodes.Known.{variables_with, variable_put, name_put, named}
-use Rattle.script_hints.specs.script_nodes.Values.{then_rounded, fused_sum, expr_value, term_value}
-use Rattle.script_hints.specs.script_nodes.Values.{factor_value, atom_value}
-use Rattle.node_counts.proofs.There.{past, stays, joins, any_before, node_stays}
-use Rattle.node_counts.proofs.There.{node_joins, absent, found, has_node, name_joins}
-use Rattle.node_counts.proofs.There.{same_place}
+use Rattle.fx_model.specs.declared.Rounding.{Rounding}
+use Rattle.fx_model.specs.declared.ExprId.{ExprId}
+use Rattle.fx_model.specs.declared.Node.{Node}
+use Rattle.fx_model.specs.declared.Node.TheVariants.{Var, Neg, Add, Mul, Abs, Round}
+use Rattle.expr_dag.specs.Nodes.{same_node, place_of, placed, with_node}
+use Rattle.expr_dag.specs.Same.{itself}
+use Rattle.script_shape.specs.Expressions.{Expr, term, sum, difference, Term, factor, product}
+use Rattle.script_shape.specs.Expressions.{quotient, Factor, negation, atom, Atom, number, variable}
+use Rattle.script_shape.specs.Expressions.{parenthesized, absolute, called, rounded, fused}
+use Rattle.script_nodes.specs.Known.{Name, Known, PlacedNode, entry_of, put, variables_with}
+use Rattle.script_nodes.specs.Known.{variable_put, name_put, named}
+use Rattle.script_nodes.specs.Values.{then_rounded, fused_sum, expr_value, term_value, factor_value}
+use Rattle.script_nodes.specs.Values.{atom_value}
+use Rattle.node_counts.proofs.There.{past, stays, joins, any_before, node_stays, node_joins, absent}
+use Rattle.node_counts.proofs.There.{found, has_node, name_joins, same_place}
 
 -- ---- the number of a name
 

@@ -1,11 +1,11 @@
 -- Words that the judge lets pass.
 use Rattle.std.proofs.Common.{◌≡◌, ℕ, ◌≤◌, List, [], ◌∷◌, ◌++◌, Option, None, refl, ◌∙◌, subst}
 use Rattle.std.proofs.Common.{arith, le_refl, le_trans}
-use Rattle.script_judge.specs.script_words.Words.{Word}
-use Rattle.script_judge.specs.script_shape.declared.due.Due.{Due}
-use Rattle.script_judge.specs.script_shape.declared.due.Due.TheVariants as d
-use Rattle.script_judge.specs.script_shape.Roles.{Leaf}
-use Rattle.script_judge.specs.script_shape.Inner.{EachRole}
+use Rattle.script_words.specs.Words.{Word}
+use Rattle.script_shape.specs.declared.due.Due.{Due}
+use Rattle.script_shape.specs.declared.due.Due.TheVariants as d
+use Rattle.script_shape.specs.Roles.{Leaf}
+use Rattle.script_shape.specs.Inner.{EachRole}
 use Rattle.script_judge.specs.declared.fault.Fault.{Fault}
 use Rattle.script_judge.specs.Names.{Name}
 use Rattle.script_judge.specs.Numbers.{Notes}

@@ -1,19 +1,18 @@
 -- Where the words of propositions and hints stand, by the judge.
 use Rattle.std.proofs.Common.{◌≡◌, List, [], ◌∷◌, ◌++◌, refl, ap, ◌∙◌, subst}
-use Rattle.script_judge.specs.script_words.Words.{Word}
-use Rattle.script_judge.specs.script_shape.declared.due.Due.{Due}
-use Rattle.script_judge.specs.script_shape.declared.due.Due.TheVariants as d
-use Rattle.script_judge.specs.script_shape.Tree.{Operator, fixed, int, Expr, term, sum, difference}
-use Rattle.script_judge.specs.script_shape.Tree.{Term, factor, product, quotient, Factor, negation}
-use Rattle.script_judge.specs.script_shape.Tree.{atom, Atom, number, variable, parenthesized}
-use Rattle.script_judge.specs.script_shape.Tree.{absolute, called, rounded, fused, Prop, lies_in}
-use Rattle.script_judge.specs.script_shape.Tree.{relative_in, at_most, at_least, multiple, Halving}
-use Rattle.script_judge.specs.script_shape.Tree.{halved_by, with_goal, Hint, rewrite, like, split}
-use Rattle.script_judge.specs.script_shape.Tree.{halving}
-use Rattle.script_judge.specs.script_shape.Roles.{Leaf, operator_leaves, expr_leaves, term_leaves}
-use Rattle.script_judge.specs.script_shape.Roles.{factor_leaves, atom_leaves, prop_leaves}
-use Rattle.script_judge.specs.script_shape.Roles.{halving_leaves, hint_leaves}
-use Rattle.script_judge.specs.script_shape.Inner.{EachRole}
+use Rattle.script_words.specs.Words.{Word}
+use Rattle.script_shape.specs.declared.due.Due.{Due}
+use Rattle.script_shape.specs.declared.due.Due.TheVariants as d
+use Rattle.script_shape.specs.Expressions.{Operator, fixed, int, Expr, term, sum, difference, Term}
+use Rattle.script_shape.specs.Expressions.{factor, product, quotient, Factor, negation, atom, Atom}
+use Rattle.script_shape.specs.Expressions.{number, variable, parenthesized, absolute, called}
+use Rattle.script_shape.specs.Expressions.{rounded, fused}
+use Rattle.script_shape.specs.Propositions.{Prop, lies_in, relative_in, at_most, at_least, multiple}
+use Rattle.script_shape.specs.Hints.{Halving, halved_by, with_goal, Hint, rewrite, like, split}
+use Rattle.script_shape.specs.Hints.{halving}
+use Rattle.script_shape.specs.Roles.{Leaf, operator_leaves, expr_leaves, term_leaves, factor_leaves}
+use Rattle.script_shape.specs.Roles.{atom_leaves, prop_leaves, halving_leaves, hint_leaves}
+use Rattle.script_shape.specs.Inner.{EachRole}
 use Rattle.script_judge.specs.declared.counts.ScriptPart.{ScriptPart}
 use Rattle.script_judge.specs.declared.counts.ScriptPart.TheVariants as place
 use Rattle.script_judge.specs.Counts.{place_after}

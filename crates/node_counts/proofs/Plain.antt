@@ -1,17 +1,17 @@
 -- Words that leave what the judge knows of splits as it is.
 use Rattle.std.proofs.Common.{◌≡◌, List, [], ◌∷◌, None, Bool, true, false, if◌then◌else◌, refl, ap}
 use Rattle.std.proofs.Common.{◌∙◌, subst}
-use Rattle.script_judge.specs.script_words.Words.{Word}
-use Rattle.script_judge.specs.script_shape.declared.due.Due.{Due}
-use Rattle.script_judge.specs.script_shape.declared.due.Due.TheVariants as d
-use Rattle.script_judge.specs.script_shape.Roles.{Leaf}
-use Rattle.script_judge.specs.script_shape.Inner.{EachRole, IsInner}
+use Rattle.script_words.specs.Words.{Word}
+use Rattle.script_shape.specs.declared.due.Due.{Due}
+use Rattle.script_shape.specs.declared.due.Due.TheVariants as d
+use Rattle.script_shape.specs.Roles.{Leaf}
+use Rattle.script_shape.specs.Inner.{EachRole, IsInner}
+use Rattle.script_cases.specs.Parts.{Parts}
 use Rattle.script_judge.specs.Names.{operand_name, is_some_among}
 use Rattle.script_judge.specs.Numbers.{Notes}
 use Rattle.script_judge.specs.Subject.{Subject, nothing, node_of, other, Alias, aliases_after}
 use Rattle.script_judge.specs.Subject.{subject_after}
 use Rattle.script_judge.specs.Splits.{SplitRange, ends_between, ranges_after, parts_after}
-use Rattle.script_judge.specs.script_cases.Parts.{Parts}
 use Rattle.script_judge.specs.Judge.{Seen, seen_after}
 use Rattle.node_counts.proofs.Passing.{Passes}
 

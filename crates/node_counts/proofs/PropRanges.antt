@@ -2,32 +2,31 @@
 use Rattle.std.proofs.Common.{◌≡◌, ◌⊎◌, inl, inr, suc, List, [], ◌∷◌, ◌++◌, length, Option, Some}
 use Rattle.std.proofs.Common.{None, Bool, true, false, refl, sym, ap, ◌∙◌, subst}
 use Rattle.std.specs.List.{flat_map, AllByRecursion}
-use Rattle.script_judge.specs.fx_model.declared.ExprId.{ExprId}
-use Rattle.script_judge.specs.script_words.declared.class.Spelled.TheVariants as spelled
-use Rattle.script_judge.specs.script_words.declared.class.Symbol.TheVariants as s
-use Rattle.script_judge.specs.script_words.Words.{sign}
-use Rattle.script_judge.specs.script_shape.declared.due.Due.{Due}
-use Rattle.script_judge.specs.script_shape.declared.due.Due.TheVariants as d
-use Rattle.script_judge.specs.script_shape.Tree.{Whole, natural, opposite, Expr, Prop, lies_in}
-use Rattle.script_judge.specs.script_shape.Tree.{relative_in, at_most, at_least, multiple, Stated}
-use Rattle.script_judge.specs.script_shape.Tree.{affirmed, denied, Formula, single, and, or}
-use Rattle.script_judge.specs.script_shape.Tree.{implies}
-use Rattle.script_judge.specs.script_shape.Roles.{Leaf, whole_leaves, special_leaves}
-use Rattle.script_judge.specs.script_shape.Roles.{expr_leaves, prop_leaves, stated_leaves}
-use Rattle.script_judge.specs.script_shape.Roles.{formula_leaves}
-use Rattle.script_judge.specs.script_shape.Inner.{EachRole, IsInner, each_of_both, each_as}
-use Rattle.script_judge.specs.script_shape.Inner.{bound_roles, digits_roles, special_roles}
-use Rattle.script_judge.specs.script_shape.Inner.{expr_inner}
+use Rattle.fx_model.specs.declared.ExprId.{ExprId}
+use Rattle.facts.specs.CommonParts.{all_as, all_last}
+use Rattle.script_words.specs.declared.class.Spelled.TheVariants as spelled
+use Rattle.script_words.specs.declared.class.Symbol.TheVariants as s
+use Rattle.script_words.specs.Words.{sign}
+use Rattle.script_shape.specs.declared.due.Due.{Due}
+use Rattle.script_shape.specs.declared.due.Due.TheVariants as d
+use Rattle.script_shape.specs.Expressions.{Whole, natural, opposite, Expr}
+use Rattle.script_shape.specs.Propositions.{Prop, lies_in, relative_in, at_most, at_least, multiple}
+use Rattle.script_shape.specs.Propositions.{Stated, affirmed, denied, Formula, single, and, or}
+use Rattle.script_shape.specs.Propositions.{implies}
+use Rattle.script_shape.specs.Roles.{Leaf, whole_leaves, special_leaves, expr_leaves, prop_leaves}
+use Rattle.script_shape.specs.Roles.{stated_leaves, formula_leaves}
+use Rattle.script_shape.specs.Inner.{EachRole, IsInner, each_of_both, each_as, bound_roles}
+use Rattle.script_shape.specs.Inner.{digits_roles, special_roles, expr_inner}
+use Rattle.script_cases.specs.Cases.{with_first, cases}
+use Rattle.script_cases.specs.Parts.{Parts, nothing as nothing_read, with_item, part_of, behind_or}
+use Rattle.script_cases.specs.Parts.{behind_arrow}
 use Rattle.script_judge.specs.Names.{Name}
-use Rattle.script_judge.specs.script_cases.Cases.{with_first, cases}
-use Rattle.script_judge.specs.script_cases.Parts.{Parts, nothing as nothing_read, with_item}
-use Rattle.script_judge.specs.script_cases.Parts.{part_of, behind_or, behind_arrow}
 use Rattle.script_judge.specs.Sides.{has_arrow}
 use Rattle.script_judge.specs.Subject.{Subject, nothing, node_of, other}
 use Rattle.script_judge.specs.Splits.{Ends, SplitRange, ranges_after}
 use Rattle.script_judge.specs.Judge.{Seen, seen_after}
-use Rattle.script_hints.specs.script_nodes.Known.{Known}
-use Rattle.script_hints.specs.script_nodes.Values.{expr_value}
+use Rattle.script_nodes.specs.Known.{Known}
+use Rattle.script_nodes.specs.Values.{expr_value}
 use Rattle.script_claims.specs.declared.claim.Claim.{Claim}
 use Rattle.script_claims.specs.Claims.{ranged, prop_claim, denial, stated, Claims, then_goal}
 use Rattle.script_claims.specs.Claims.{then_claimed, then_or, then_arrow, no_claims, formula_claims}
@@ -40,7 +39,6 @@ use Rattle.node_counts.proofs.Plain.{IsCalm, IsNoRange, word_ranges, word_calm, 
 use Rattle.node_counts.proofs.Plain.{IsPlain, words_plain, no_alias, inner_no_range}
 use Rattle.node_counts.proofs.Subjects.{bare, subject_by, expr_said, Says, expr_says, Tied}
 use Rattle.node_counts.proofs.Subjects.{tied_later, IsBegun, begun_by, second_other}
-use Rattle.script_judge.specs.facts.CommonParts.{all_as, all_last}
 
 -- ---- propositions
 

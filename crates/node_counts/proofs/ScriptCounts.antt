@@ -1,19 +1,21 @@
 -- A script that the judge lets pass has few nodes.
 use Rattle.std.proofs.Common.{◌≡◌, ℕ, ◌≤◌, List, [], ◌∷◌, ◌++◌, length, None, refl, sym, subst}
 use Rattle.std.proofs.Common.{arith, append_assoc, append-nil}
-use Rattle.script_judge.specs.script_words.declared.class.Symbol.TheVariants as s
-use Rattle.script_judge.specs.script_words.Words.{sign}
-use Rattle.script_judge.specs.script_words.Named.{nothing}
-use Rattle.script_judge.specs.script_shape.declared.due.Due.TheVariants as d
-use Rattle.script_judge.specs.script_shape.Tree.{Formula, Hints, Script, formula, define}
-use Rattle.script_judge.specs.script_shape.ShapeLaw.{RolesAreUnique}
-use Rattle.script_judge.specs.script_shape.Roles.{LeavesSpell, Leaf, at, formula_leaves}
-use Rattle.script_judge.specs.script_shape.Roles.{hints_leaves, definition_leaves, script_leaves}
+use Rattle.script_words.specs.declared.class.Symbol.TheVariants as s
+use Rattle.script_words.specs.Words.{sign}
+use Rattle.script_words.specs.Named.{nothing}
+use Rattle.script_shape.specs.declared.due.Due.TheVariants as d
+use Rattle.script_shape.specs.Propositions.{Formula}
+use Rattle.script_shape.specs.Hints.{Hints}
+use Rattle.script_shape.specs.Tree.{Script, formula, define}
+use Rattle.script_shape.specs.ShapeLaw.{RolesAreUnique}
+use Rattle.script_shape.specs.Roles.{LeavesSpell, Leaf, at, formula_leaves, hints_leaves}
+use Rattle.script_shape.specs.Roles.{definition_leaves, script_leaves}
 use Rattle.script_judge.specs.Names.{Name}
 use Rattle.script_judge.specs.Judge.{Seen, nothing_seen, seen_after, Judged}
-use Rattle.script_hints.specs.script_nodes.Known.{Known, nothing_known}
-use Rattle.script_hints.specs.script_nodes.Definitions.{definition_value}
-use Rattle.script_hints.specs.script_nodes.ReadingLaw.{ReadsTrees}
+use Rattle.script_nodes.specs.Known.{Known, nothing_known}
+use Rattle.script_nodes.specs.Definitions.{definition_value}
+use Rattle.script_nodes.specs.ReadingLaw.{ReadsTrees}
 use Rattle.script_claims.specs.Claims.{formula_claims}
 use Rattle.script_claims.specs.Reads.{then_brace, ReadsFormulas}
 use Rattle.script_hints.specs.ReadingLaw.{ReadsHints}

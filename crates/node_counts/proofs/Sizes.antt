@@ -4,13 +4,13 @@ use Rattle.std.proofs.Common.{refl, sym, ap, ◌∙◌, arith}
 use Rattle.std.specs.Str.{bytes_eq}
 use Rattle.std.proofs.lemmas.Slice.Eq.{bytes_eq-Decides}
 use Rattle.std.proofs.lemmas.Bool.{or_right, or_left}
-use Rattle.script_judge.specs.fx_model.declared.Rounding.{Rounding}
-use Rattle.script_judge.specs.fx_model.declared.Node.{Node}
-use Rattle.script_hints.specs.expr_dag.Nodes.{place_of}
+use Rattle.fx_model.specs.declared.Rounding.{Rounding}
+use Rattle.fx_model.specs.declared.Node.{Node}
+use Rattle.expr_dag.specs.Nodes.{place_of}
 use Rattle.script_judge.specs.Counts.{one_if}
 use Rattle.script_judge.specs.Names.{is_among}
-use Rattle.script_hints.specs.script_nodes.Known.{Name, Known, PlacedNode, put, named}
-use Rattle.script_hints.specs.script_nodes.Definitions.{with_value, with_operator}
+use Rattle.script_nodes.specs.Known.{Name, Known, PlacedNode, put, named}
+use Rattle.script_nodes.specs.Definitions.{with_value, with_operator}
 use Rattle.node_counts.proofs.There.{is_there, Later, placed_most, put_later, named_later}
 use Rattle.node_counts.proofs.There.{named_there, named_most, named_same, value_later, value_there}
 use Rattle.node_counts.proofs.There.{or_more, or_first}

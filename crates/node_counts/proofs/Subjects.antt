@@ -5,28 +5,27 @@ use Rattle.std.proofs.Common.{if◌then◌else◌, refl, sym, ap, ◌∙◌, sub
 use Rattle.std.specs.List.{AllByRecursion}
 use Rattle.std.specs.Str.{bytes_eq}
 use Rattle.std.proofs.lemmas.Slice.Eq.{bytes_eq-Decides}
-use Rattle.script_judge.specs.fx_model.declared.Rounding.{Rounding}
-use Rattle.script_judge.specs.fx_model.declared.ExprId.{ExprId}
-use Rattle.script_judge.specs.script_words.declared.class.Symbol.{Symbol}
-use Rattle.script_judge.specs.script_words.declared.class.Symbol.TheVariants as s
-use Rattle.script_judge.specs.script_words.Words.{Word, name, rounding, literal, sign}
-use Rattle.script_judge.specs.script_shape.declared.due.Due.{Due}
-use Rattle.script_judge.specs.script_shape.declared.due.Due.TheVariants as d
-use Rattle.script_judge.specs.script_shape.Tree.{fixed, int, Expr, term, sum, difference, Term}
-use Rattle.script_judge.specs.script_shape.Tree.{factor, product, quotient, Factor, negation, atom}
-use Rattle.script_judge.specs.script_shape.Tree.{Atom, number, variable, parenthesized, absolute}
-use Rattle.script_judge.specs.script_shape.Tree.{called, rounded, fused}
-use Rattle.script_judge.specs.script_shape.Roles.{Leaf, expr_leaves, term_leaves, factor_leaves}
-use Rattle.script_judge.specs.script_shape.Roles.{atom_leaves}
-use Rattle.script_judge.specs.script_shape.Inner.{EachRole, IsInner, expr_inner}
+use Rattle.fx_model.specs.declared.Rounding.{Rounding}
+use Rattle.fx_model.specs.declared.ExprId.{ExprId}
+use Rattle.script_words.specs.declared.class.Symbol.{Symbol}
+use Rattle.script_words.specs.declared.class.Symbol.TheVariants as s
+use Rattle.script_words.specs.Words.{Word, name, rounding, literal, sign}
+use Rattle.script_shape.specs.declared.due.Due.{Due}
+use Rattle.script_shape.specs.declared.due.Due.TheVariants as d
+use Rattle.script_shape.specs.Expressions.{fixed, int, Expr, term, sum, difference, Term, factor}
+use Rattle.script_shape.specs.Expressions.{product, quotient, Factor, negation, atom, Atom, number}
+use Rattle.script_shape.specs.Expressions.{variable, parenthesized, absolute, called, rounded}
+use Rattle.script_shape.specs.Expressions.{fused}
+use Rattle.script_shape.specs.Roles.{Leaf, expr_leaves, term_leaves, factor_leaves, atom_leaves}
+use Rattle.script_shape.specs.Inner.{EachRole, IsInner, expr_inner}
 use Rattle.script_judge.specs.Names.{Name, is_among, is_some_among, operand_name}
 use Rattle.script_judge.specs.Numbers.{Notes}
 use Rattle.script_judge.specs.Subject.{Subject, nothing, node_of, other, Alias, alias_of}
 use Rattle.script_judge.specs.Subject.{first_name, signed_subject, operand_subject, subject_after}
 use Rattle.script_judge.specs.Subject as subject
 use Rattle.script_judge.specs.Judge.{Seen, seen_after}
-use Rattle.script_hints.specs.script_nodes.Known.{Known, PlacedNode, named}
-use Rattle.script_hints.specs.script_nodes.Values.{expr_value, term_value, factor_value, atom_value}
+use Rattle.script_nodes.specs.Known.{Known, PlacedNode, named}
+use Rattle.script_nodes.specs.Values.{expr_value, term_value, factor_value, atom_value}
 use Rattle.node_counts.proofs.Passing.{Passes, passes_both}
 use Rattle.node_counts.proofs.Numbers.{HasNumber, Keeps, named_keeps, named_has, number_once}
 use Rattle.node_counts.proofs.Plain.{no_alias}

@@ -8,15 +8,14 @@ use Rattle.std.specs.Str.{bytes_eq}
 use Rattle.std.proofs.lemmas.List.Folds.{list_any-append}
 use Rattle.std.proofs.lemmas.Slice.Eq.{bytes_eq-Decides}
 use Rattle.std.proofs.lemmas.Bool.{and_parts, and_from, or_right}
-use Rattle.script_judge.specs.fx_model.declared.ExprId.{ExprId}
-use Rattle.script_judge.specs.fx_model.declared.Node.{Node}
-use Rattle.script_judge.specs.fx_model.declared.Node.TheVariants.{Var}
-use Rattle.script_hints.specs.expr_dag.Nodes.{same_node, numbered, place_of, placed, with_node}
-use Rattle.script_hints.specs.expr_dag.Same.{itself}
-use Rattle.script_hints.specs.script_nodes.Known.{Name, Known, PlacedNode, entry_of, with_entry}
-use Rattle.script_hints.specs.script_nodes.Known.{put, variables_with, variable_put, name_put}
-use Rattle.script_hints.specs.script_nodes.Known.{named}
-use Rattle.script_hints.specs.script_nodes.Definitions.{with_value}
+use Rattle.fx_model.specs.declared.ExprId.{ExprId}
+use Rattle.fx_model.specs.declared.Node.{Node}
+use Rattle.fx_model.specs.declared.Node.TheVariants.{Var}
+use Rattle.expr_dag.specs.Nodes.{same_node, numbered, place_of, placed, with_node}
+use Rattle.expr_dag.specs.Same.{itself}
+use Rattle.script_nodes.specs.Known.{Name, Known, PlacedNode, entry_of, with_entry, put}
+use Rattle.script_nodes.specs.Known.{variables_with, variable_put, name_put, named}
+use Rattle.script_nodes.specs.Definitions.{with_value}
 
 -- ---- places
 

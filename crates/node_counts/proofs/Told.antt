@@ -1,7 +1,7 @@
 -- Words that the judge lets pass, with what it is told of each.
 use Rattle.std.proofs.Common.{◌≡◌, ℕ, List, [], ◌∷◌, ◌++◌, Option, None, refl, sym, subst}
 use Rattle.std.proofs.Common.{append_assoc, append-nil}
-use Rattle.script_judge.specs.script_shape.Roles.{Leaf}
+use Rattle.script_shape.specs.Roles.{Leaf}
 use Rattle.script_judge.specs.declared.fault.Fault.{Fault}
 use Rattle.script_judge.specs.Numbers.{Notes, Tells}
 use Rattle.script_judge.specs.Judge.{Seen, seen_after, refusal_at, Judged, refused, passed}

@@ -2,29 +2,27 @@
 -- it.
 use Rattle.std.proofs.Common.{◌≡◌, ℕ, ◌+◌, ◌≤◌, List, [], ◌∷◌, Option, Some, None, IfSome, Bool}
 use Rattle.std.proofs.Common.{refl, ap, arith}
-use Rattle.script_judge.specs.fx_model.declared.Rounding.{Rounding}
-use Rattle.script_judge.specs.fx_model.declared.ExprId.{ExprId}
-use Rattle.script_judge.specs.fx_model.declared.Node.{Node}
-use Rattle.script_judge.specs.fx_model.declared.Node.TheVariants.{Lit, Neg, Add, Sub, Mul, Div, Abs}
-use Rattle.script_judge.specs.fx_model.declared.Node.TheVariants.{Round}
-use Rattle.script_judge.specs.script_words.declared.class.Symbol.{Symbol}
-use Rattle.script_judge.specs.script_words.declared.class.Symbol.TheVariants as s
-use Rattle.script_judge.specs.script_words.Words.{Word, name, rounding, literal, sign}
-use Rattle.script_judge.specs.script_shape.declared.due.Due.{Due}
-use Rattle.script_judge.specs.script_shape.declared.due.Due.TheVariants as d
+use Rattle.fx_model.specs.declared.Rounding.{Rounding}
+use Rattle.fx_model.specs.declared.ExprId.{ExprId}
+use Rattle.fx_model.specs.declared.Node.{Node}
+use Rattle.fx_model.specs.declared.Node.TheVariants.{Lit, Neg, Add, Sub, Mul, Div, Abs, Round}
+use Rattle.script_words.specs.declared.class.Symbol.{Symbol}
+use Rattle.script_words.specs.declared.class.Symbol.TheVariants as s
+use Rattle.script_words.specs.Words.{Word, name, rounding, literal, sign}
+use Rattle.script_shape.specs.declared.due.Due.{Due}
+use Rattle.script_shape.specs.declared.due.Due.TheVariants as d
 use Rattle.script_judge.specs.Counts.{one_if, sign_nodes, operand_nodes, nodes_at}
 use Rattle.script_judge.specs.Names.{plain_text, operand_name, is_some_apart, with_some}
-use Rattle.script_hints.specs.script_nodes.declared.waits.Waits.{Waits}
-use Rattle.script_hints.specs.script_nodes.declared.waits.Waits.TheVariants as wait
-use Rattle.script_hints.specs.script_nodes.Literals.{literal_of}
-use Rattle.script_hints.specs.script_nodes.Known.{Name, Known, PlacedNode, put, named}
-use Rattle.script_hints.specs.script_nodes.Values.{then_rounded, one_operand, fused_sum}
-use Rattle.script_hints.specs.script_nodes.OperatorWords.{with_lsb, operator_ended, whole_read}
-use Rattle.script_hints.specs.script_nodes.OperatorWords.{opposite_read, direction_read}
-use Rattle.script_hints.specs.script_nodes.Waits.{Reading, Complete, factor_done, term_done}
-use Rattle.script_hints.specs.script_nodes.Waits.{expr_done, closing, closed, parting, parted}
-use Rattle.script_hints.specs.script_nodes.Waits.{then_operation, term_operation, sign_operand}
-use Rattle.script_hints.specs.script_nodes.Waits.{operand, operation, read}
+use Rattle.script_nodes.specs.declared.waits.Waits.{Waits}
+use Rattle.script_nodes.specs.declared.waits.Waits.TheVariants as wait
+use Rattle.script_nodes.specs.Literals.{literal_of}
+use Rattle.script_nodes.specs.Known.{Name, Known, PlacedNode, put, named}
+use Rattle.script_nodes.specs.Values.{then_rounded, one_operand, fused_sum}
+use Rattle.script_nodes.specs.OperatorWords.{with_lsb, operator_ended, whole_read, opposite_read}
+use Rattle.script_nodes.specs.OperatorWords.{direction_read}
+use Rattle.script_nodes.specs.Waits.{Reading, Complete, factor_done, term_done, expr_done, closing}
+use Rattle.script_nodes.specs.Waits.{closed, parting, parted, then_operation, term_operation}
+use Rattle.script_nodes.specs.Waits.{sign_operand, operand, operation, read}
 use Rattle.node_counts.proofs.Marks.{Free}
 use Rattle.node_counts.proofs.Sizes.{size, put_size, named_size}
 

@@ -1,26 +1,23 @@
 -- The roles of the words of propositions and hints. What else holds of all such roles follows by
 -- `each_as`.
 use Rattle.std.proofs.Common.{◌++◌, List}
-use Rattle.script_judge.specs.script_words.declared.class.Spelled.TheVariants as spelled
-use Rattle.script_judge.specs.script_shape.declared.due.Due.{Due}
-use Rattle.script_judge.specs.script_shape.declared.due.Due.TheVariants as d
-use Rattle.script_judge.specs.script_shape.Tree.{Whole, natural, opposite, Expr, Range, asked}
-use Rattle.script_judge.specs.script_shape.Tree.{between, Prop, lies_in, relative_in, at_most}
-use Rattle.script_judge.specs.script_shape.Tree.{at_least, multiple, Need, nonzero, below}
-use Rattle.script_judge.specs.script_shape.Tree.{not_above, above, not_below, NeedList, last_need}
-use Rattle.script_judge.specs.script_shape.Tree.{more_needs, Needs, always, provided, Points}
-use Rattle.script_judge.specs.script_shape.Tree.{last_point, more_points, CutForm, in_four, pieces}
-use Rattle.script_judge.specs.script_shape.Tree.{at_points, Names, last_name, more_names, Halving}
-use Rattle.script_judge.specs.script_shape.Tree.{halved_by, with_goal, Hint, rewrite, like, split}
-use Rattle.script_judge.specs.script_shape.Tree.{halving}
-use Rattle.script_judge.specs.script_shape.Roles.{Leaf, special_leaves, whole_leaves, bound_leaves}
-use Rattle.script_judge.specs.script_shape.Roles.{expr_leaves, range_leaves, prop_leaves}
-use Rattle.script_judge.specs.script_shape.Roles.{name_leaves, need_leaves, need_list_leaves}
-use Rattle.script_judge.specs.script_shape.Roles.{needs_leaves, points_leaves, cut_leaves}
-use Rattle.script_judge.specs.script_shape.Roles.{names_leaves, halving_leaves, hint_leaves}
-use Rattle.script_judge.specs.script_shape.Inner.{EachRole, IsInner, each_of_both, each_as}
-use Rattle.script_judge.specs.script_shape.Inner.{name_roles, special_roles, digits_roles}
-use Rattle.script_judge.specs.script_shape.Inner.{bound_roles, expr_inner}
+use Rattle.script_words.specs.declared.class.Spelled.TheVariants as spelled
+use Rattle.script_shape.specs.declared.due.Due.{Due}
+use Rattle.script_shape.specs.declared.due.Due.TheVariants as d
+use Rattle.script_shape.specs.Expressions.{Whole, natural, opposite, Expr}
+use Rattle.script_shape.specs.Propositions.{Range, asked, between, Prop, lies_in, relative_in}
+use Rattle.script_shape.specs.Propositions.{at_most, at_least, multiple}
+use Rattle.script_shape.specs.Hints.{Need, nonzero, below, not_above, above, not_below, NeedList}
+use Rattle.script_shape.specs.Hints.{last_need, more_needs, Needs, always, provided, Points}
+use Rattle.script_shape.specs.Hints.{last_point, more_points, CutForm, in_four, pieces, at_points}
+use Rattle.script_shape.specs.Hints.{Names, last_name, more_names, Halving, halved_by, with_goal}
+use Rattle.script_shape.specs.Hints.{Hint, rewrite, like, split, halving}
+use Rattle.script_shape.specs.Roles.{Leaf, special_leaves, whole_leaves, bound_leaves, expr_leaves}
+use Rattle.script_shape.specs.Roles.{range_leaves, prop_leaves, name_leaves, need_leaves}
+use Rattle.script_shape.specs.Roles.{need_list_leaves, needs_leaves, points_leaves, cut_leaves}
+use Rattle.script_shape.specs.Roles.{names_leaves, halving_leaves, hint_leaves}
+use Rattle.script_shape.specs.Inner.{EachRole, IsInner, each_of_both, each_as, name_roles}
+use Rattle.script_shape.specs.Inner.{special_roles, digits_roles, bound_roles, expr_inner}
 
 -- ---- propositions
 

@@ -1,12 +1,12 @@
 -- The nodes of a script that the judge lets pass.
 use Rattle.std.specs.Prelude.{◌≡◌, ℕ, ◌≤◌, List, length, None}
-use Rattle.script_judge.specs.script_words.declared.lex.Token.{Token}
-use Rattle.script_judge.specs.script_words.Named.{words_of}
-use Rattle.script_judge.specs.script_shape.Tree.{Script, script_words, formula, define}
-use Rattle.script_judge.specs.script_shape.Roles.{script_leaves}
+use Rattle.script_words.specs.declared.lex.Token.{Token}
+use Rattle.script_words.specs.Named.{words_of}
+use Rattle.script_shape.specs.Tree.{Script, script_words, formula, define}
+use Rattle.script_shape.specs.Roles.{script_leaves}
 use Rattle.script_judge.specs.Judge.{Judged, nothing_seen}
-use Rattle.script_hints.specs.script_nodes.Known.{Known, nothing_known}
-use Rattle.script_hints.specs.script_nodes.Definitions.{definition_value}
+use Rattle.script_nodes.specs.Known.{Known, nothing_known}
+use Rattle.script_nodes.specs.Definitions.{definition_value}
 use Rattle.script_claims.specs.Claims.{formula_claims}
 use Rattle.script_hints.specs.Hints.{no_hints, with_hints}
 

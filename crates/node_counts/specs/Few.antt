@@ -1,10 +1,10 @@
 -- The hints and the goals of a script that the judge lets pass.
 use Rattle.std.specs.Prelude.{◌≤◌, List, length, None}
-use Rattle.script_judge.specs.script_shape.Tree.{Script, formula, define}
-use Rattle.script_judge.specs.script_shape.Roles.{script_leaves}
+use Rattle.script_shape.specs.Tree.{Script, formula, define}
+use Rattle.script_shape.specs.Roles.{script_leaves}
 use Rattle.script_judge.specs.Judge.{Judged, nothing_seen}
-use Rattle.script_hints.specs.script_nodes.Known.{Known}
-use Rattle.script_hints.specs.script_nodes.Definitions.{definition_value}
+use Rattle.script_nodes.specs.Known.{Known}
+use Rattle.script_nodes.specs.Definitions.{definition_value}
 use Rattle.script_claims.specs.declared.claim.Claim.{Claim}
 use Rattle.script_claims.specs.Claims.{formula_claims}
 use Rattle.script_hints.specs.Few.{HaveFewPieces}

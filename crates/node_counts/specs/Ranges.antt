@@ -1,18 +1,18 @@
 -- The split variables of a script that the judge lets pass have ranges.
 use Rattle.std.specs.Prelude.{◌≡◌, ◌⊎◌, ◌≤◌, List, [], ◌∷◌, length, Some, None}
 use Rattle.std.specs.List.{AllByRecursion}
-use Rattle.script_judge.specs.fx_model.declared.ExprId.{ExprId}
-use Rattle.script_judge.specs.dyadic.declared.number.Dyadic.{Dyadic}
-use Rattle.script_judge.specs.dyadic.declared.number.End.TheVariants as end
-use Rattle.script_judge.specs.interval.declared.interval.Interval.{Interval}
-use Rattle.script_judge.specs.facts.declared.fact.Fact.TheVariants as fact
-use Rattle.script_judge.specs.literal_order.declared.written.Written.{Written}
-use Rattle.script_judge.specs.script_shape.Tree.{Script, formula, define}
-use Rattle.script_judge.specs.script_shape.Roles.{script_leaves}
-use Rattle.script_judge.specs.script_cases.Cases.{cases}
+use Rattle.fx_model.specs.declared.ExprId.{ExprId}
+use Rattle.dyadic.specs.declared.number.Dyadic.{Dyadic}
+use Rattle.dyadic.specs.declared.number.End.TheVariants as end
+use Rattle.interval.specs.declared.interval.Interval.{Interval}
+use Rattle.literal_order.specs.declared.written.Written.{Written}
+use Rattle.facts.specs.declared.fact.Fact.TheVariants as fact
+use Rattle.script_shape.specs.Tree.{Script, formula, define}
+use Rattle.script_shape.specs.Roles.{script_leaves}
+use Rattle.script_cases.specs.Cases.{cases}
 use Rattle.script_judge.specs.Judge.{Judged, nothing_seen}
-use Rattle.script_hints.specs.script_nodes.Known.{Known}
-use Rattle.script_hints.specs.script_nodes.Definitions.{definition_value}
+use Rattle.script_nodes.specs.Known.{Known}
+use Rattle.script_nodes.specs.Definitions.{definition_value}
 use Rattle.script_claims.specs.declared.claim.Claim.{Claim}
 use Rattle.script_claims.specs.declared.claim.Claim.TheVariants.{Bounded}
 use Rattle.script_claims.specs.Claims.{formula_claims}

@@ -5,22 +5,11 @@ ghost use Rattle.node_counts.specs.Counted.{NodesAreCounted};
 ghost use Rattle.node_counts.specs.Few.{HintsAreFew, GoalsAreFew};
 ghost use Rattle.node_counts.specs.Ranges.{SplitsHaveRanges};
 
-pub use script_claims::{
-    Claim, ClaimReader, Sides, claims_only_grow, facts_of, formulas_are_read, goals_are_enough,
-    goals_of, hypotheses_hold, parts_have_hypotheses,
-};
-pub use script_hints::hint::HintList;
-pub use script_hints::laws::{hints_only_grow, reads_hints, rounded_needs_are_enough};
-pub use script_hints::reader::HintReader;
-pub use script_hints::{
-    Dag, DagFault, Definitions, NodeReader, literals_are_told, nodes_only_grow, reads_definitions,
-};
-use script_hints::{outward_is_least, reads_trees};
-pub use script_judge::{
-    Judgement, LimitKind, ReadText, Refusal, RefusalKind, firsts_are_unique, judge_text,
-    reads_scripts,
-};
-use script_judge::{leaves_are_of_trees, roles_are_unique};
+use script_claims::formulas_are_read;
+use script_hints::laws::reads_hints;
+use script_nodes::laws::{literals_are_told, reads_trees};
+use script_bounds::outward_is_least;
+use script_shape::shape::{leaves_are_of_trees, roles_are_unique};
 
 /// Nothing is done. The clause tells a caller that a script of a text whose words pass the judge
 /// has no more than 512 nodes.

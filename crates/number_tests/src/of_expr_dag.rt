@@ -1,6 +1,7 @@
 //! A list that fills up, a copy of one, and spellings that share a node.
 
-use expr_dag::{Dag, DagFault, Direction, ExprId, Node, Rounding};
+use expr_dag::{Dag, DagFault};
+use fx_model::{Direction, ExprId, Node, Rounding};
 use literal::read;
 use std::test::Fail;
 

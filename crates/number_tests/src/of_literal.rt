@@ -1,5 +1,6 @@
 //! Rows worked out by hand.
-use literal::{Literal, LiteralFault, fix_of, read};
+use fx_model::Literal;
+use literal::{LiteralFault, fix_of, read};
 use std::test::Fail;
 
 fn number(num: u128, two: i32, ten: i32) -> Result<Literal, LiteralFault> {

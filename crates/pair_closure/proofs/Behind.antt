@@ -1,22 +1,20 @@
 -- Differences behind the script's nodes: which they are, and that they stand in order.
-use Rattle.std.specs.Prelude.{◌≡◌, ◌⊎◌, ◌↔◌, ◌<◌, ◌≤◌, ◌+◌, ℕ, List, [], ◌∷◌, ◌++◌, Some}
-use Rattle.std.specs.Prelude.{map, take, slice_get, length, refl}
+use Rattle.std.specs.Prelude.{◌≡◌, ◌⊎◌, ◌↔◌, ◌<◌, ◌≤◌, ◌+◌, ℕ, List, [], ◌∷◌, ◌++◌, Some, map, take}
+use Rattle.std.specs.Prelude.{slice_get, length, refl}
 use Rattle.std.specs.Option.{option_map}
 use Rattle.std.proofs.Common.{inl, inr, arith, ap, sym, ◌∙◌, subst, length-append, append_assoc}
 use Rattle.std.proofs.lemmas.List.{map-append}
 use Rattle.std.proofs.lemmas.Option.{slice_get_within, slice_get-map}
 use Rattle.std.proofs.lemmas.Bool.{cases_lt}
-use Rattle.expr_dag.specs.fx_model.declared.ExprId.{ExprId}
-use Rattle.expr_dag.specs.fx_model.declared.Node.{Node}
-use Rattle.expr_dag.specs.fx_model.declared.Node.TheVariants.{Var, Lit, Neg, Add, Sub, Mul, Div}
-use Rattle.expr_dag.specs.fx_model.declared.Node.TheVariants.{Abs, Round}
+use Rattle.fx_model.specs.declared.ExprId.{ExprId}
+use Rattle.fx_model.specs.declared.Node.{Node}
+use Rattle.fx_model.specs.declared.Node.TheVariants.{Var, Lit, Neg, Add, Sub, Mul, Div, Abs, Round}
 use Rattle.expr_dag.specs.Nodes.{IsAt, IsAbsent}
 use Rattle.pair_closure.specs.Reached.{Has, IsEachOnce, IsListOf}
 use Rattle.pair_closure.specs.Reached.IsReached.{begin, lead}
 use Rattle.pair_closure.specs.Members.{some-inj, has_first, has_cases, no_member, has_left}
 use Rattle.pair_closure.specs.Members.{has_right, has_either, kept_left, once_apart}
-use Rattle.pair_closure.specs.Closure.{Pair, difference_of, rank, IsKnownPair}
-use Rattle.pair_closure.specs.Closure.{IsFollowed, IsTaken}
+use Rattle.pair_closure.specs.Closure.{Pair, difference_of, rank, IsKnownPair, IsFollowed, IsTaken}
 use Rattle.pair_closure.specs.Closure.{ClosuresAreOne}
 use Rattle.pair_closure.specs.Closure.BeginsExpressions.{written, difference}
 use Rattle.pair_closure.specs.Closure.LeadsToExpression.{operands, past_left, past_right}

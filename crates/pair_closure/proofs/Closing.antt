@@ -1,9 +1,9 @@
 -- The worklist of expressions, from its start to its end.
 use Rattle.std.specs.Prelude.{◌≡◌, ◌≤◌, ◌+◌, ℕ, List, [], ◌∷◌, ◌++◌, Some, slice_get, length}
 use Rattle.std.proofs.Common.{inl, inr, arith, ap, sym, ◌∙◌, subst, length-append}
-use Rattle.expr_dag.specs.fx_model.declared.ExprId.{ExprId}
-use Rattle.expr_dag.specs.fx_model.declared.Node.{Node}
-use Rattle.expr_dag.specs.fx_model.declared.Node.TheVariants.{Sub}
+use Rattle.fx_model.specs.declared.ExprId.{ExprId}
+use Rattle.fx_model.specs.declared.Node.{Node}
+use Rattle.fx_model.specs.declared.Node.TheVariants.{Sub}
 use Rattle.expr_dag.specs.Nodes.{IsAt}
 use Rattle.pair_closure.specs.Reached.{Has, IsEachOnce, IsListOf}
 use Rattle.pair_closure.specs.Reached.IsReached.{begin, lead}

@@ -4,13 +4,12 @@ use Rattle.std.specs.Prelude.{slice_index_or, length}
 use Rattle.std.proofs.Common.{inl, inr, arith, sym, ◌∙◌, subst}
 use Rattle.std.proofs.lemmas.Option.{slice_get-get_or}
 use Rattle.std.proofs.lemmas.Bool.{cases_lt}
-use Rattle.expr_dag.specs.fx_model.declared.Node.{Node}
+use Rattle.fx_model.specs.declared.Node.{Node}
 use Rattle.pair_closure.specs.Reached.{Has, IsListOf, IsEachOnce}
 use Rattle.pair_closure.specs.Closure.{Pair, IsRounding, BeginsPairs, LeadsToPair, IsPair}
 use Rattle.pair_closure.specs.Closure.{AreManyPairs}
 use Rattle.pair_closure.specs.Grown.{IsGrown}
-use Rattle.pair_closure.specs.Members.{none_at}
-use Rattle.pair_closure.proofs.Listed.{no_member}
+use Rattle.pair_closure.specs.Members.{none_at, no_member}
 use Rattle.pair_closure.proofs.Grown.{grown_both}
 use Rattle.pair_closure.proofs.Worklist.{IsWorked, worked_start, worked_all}
 

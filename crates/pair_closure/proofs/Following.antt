@@ -1,8 +1,8 @@
 -- What follows from a pair in one step, read off its nodes.
 use Rattle.std.specs.Prelude.{◌≡◌, ◌≢◌, ◌⊎◌, List}
 use Rattle.std.proofs.Common.{inl, inr, subst}
-use Rattle.expr_dag.specs.fx_model.declared.ExprId.{ExprId}
-use Rattle.expr_dag.specs.fx_model.declared.Node.{Node}
+use Rattle.fx_model.specs.declared.ExprId.{ExprId}
+use Rattle.fx_model.specs.declared.Node.{Node}
 use Rattle.expr_dag.specs.Nodes.{IsAt, one_node}
 use Rattle.pair_closure.specs.Reached.{Has}
 use Rattle.pair_closure.specs.Closure.{Pair, matched, rounded, LeadsToPair}

@@ -4,11 +4,11 @@ use Rattle.std.specs.Prelude.{slice_index_or, length}
 use Rattle.std.proofs.Common.{inl, inr, arith, ap, sym, ◌∙◌, subst}
 use Rattle.std.proofs.lemmas.Option.{slice_get_within, slice_get-get_or}
 use Rattle.std.proofs.lemmas.Bool.{cases_lt}
-use Rattle.expr_dag.specs.fx_model.declared.Node.{Node}
+use Rattle.fx_model.specs.declared.Node.{Node}
 use Rattle.pair_closure.specs.Grown.{IsGrown, IsOverfull}
 use Rattle.pair_closure.specs.Differences.{IsGivenBy}
-use Rattle.pair_closure.specs.Members.{some-inj}
-use Rattle.pair_closure.proofs.Listed.{HasBelow, has_first, has_rest, has_cases, no_member}
+use Rattle.pair_closure.specs.Members.{some-inj, has_first, has_rest, has_cases, no_member}
+use Rattle.pair_closure.proofs.Listed.{HasBelow}
 use Rattle.pair_closure.proofs.Grown.{grown_both, grown_same, grown_none, overfull_later}
 use Rattle.pair_closure.proofs.Grown.{overfull_wider}
 

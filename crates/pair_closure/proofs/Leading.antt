@@ -1,11 +1,10 @@
 -- What a difference leads to, read off the nodes of its sides and the rows of the pairs.
 use Rattle.std.specs.Prelude.{◌≡◌, ◌≢◌, ◌⊎◌, ◌↔◌, ◌<◌, List, length}
 use Rattle.std.proofs.Common.{inl, inr, arith, ap, sym, subst}
-use Rattle.expr_dag.specs.fx_model.declared.ExprId.{ExprId}
-use Rattle.expr_dag.specs.fx_model.declared.Node.{Node}
-use Rattle.expr_dag.specs.fx_model.declared.Node.TheVariants.{Var, Lit, Neg, Add, Sub, Mul, Div}
-use Rattle.expr_dag.specs.fx_model.declared.Node.TheVariants.{Abs, Round}
-use Rattle.expr_dag.specs.fx_model.Expression.{IsOrdered}
+use Rattle.fx_model.specs.declared.ExprId.{ExprId}
+use Rattle.fx_model.specs.declared.Node.{Node}
+use Rattle.fx_model.specs.declared.Node.TheVariants.{Var, Lit, Neg, Add, Sub, Mul, Div, Abs, Round}
+use Rattle.fx_model.specs.Expression.{IsOrdered}
 use Rattle.expr_dag.specs.Nodes.{IsAt, one_node}
 use Rattle.pair_closure.specs.Reached.{Has}
 use Rattle.pair_closure.specs.Reached.IsReached.{begin, lead}
@@ -19,7 +18,7 @@ use Rattle.pair_closure.specs.Grown.{IsGrown, IsOverfull}
 use Rattle.pair_closure.proofs.Grown.{grown_both, grown_same, grown_none, overfull_later}
 use Rattle.pair_closure.proofs.Grown.{overfull_wider}
 use Rattle.pair_closure.proofs.Known.{children, matched_below}
-use Rattle.pair_closure.proofs.Listed.{no_member}
+use Rattle.pair_closure.specs.Members.{no_member}
 
 -- terms are operands
 pub terms_matched : (m n : Node) (p : Pair) → Has (matched_terms m n) p → Has (matched m n) p

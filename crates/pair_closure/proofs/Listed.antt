@@ -1,12 +1,11 @@
 -- Members of short lists, and of the front of a list.
-use Rattle.std.specs.Prelude.{◌≡◌, ◌⊎◌, ◌<◌, ◌+◌, ℕ, List, [], ◌∷◌, Some, slice_get}
-use Rattle.std.specs.Prelude.{length}
+use Rattle.std.specs.Prelude.{◌≡◌, ◌⊎◌, ◌<◌, ◌+◌, ℕ, List, [], ◌∷◌, Some, slice_get, length}
 use Rattle.std.proofs.Common.{inl, inr, arith, ap, sym, ◌∙◌, subst}
 use Rattle.std.proofs.lemmas.Option.{slice_get_within}
 use Rattle.std.proofs.lemmas.Bool.{cases_lt}
 use Rattle.pair_closure.specs.Reached.{Has}
 use Rattle.pair_closure.specs.Grown.{IsGrown}
-pub use Rattle.pair_closure.specs.Members.{some-inj, no_member, has_first, has_rest, has_cases}
+use Rattle.pair_closure.specs.Members.{some-inj, no_member, has_first, has_rest, has_cases}
 use Rattle.pair_closure.proofs.Grown.{grown_both, grown_same, grown_none}
 
 -- x stands among the first i

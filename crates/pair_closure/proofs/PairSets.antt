@@ -1,10 +1,10 @@
 -- What one more pair does to a set of pairs.
-use Rattle.std.specs.Prelude.{◌≡◌, ◌<◌, ◌+◌, Option, None, position, is_some, take, ℕ}
-use Rattle.std.specs.Prelude.{Bool, true, false, if◌then◌else◌, List, [], ◌∷◌, ◌++◌, Some}
-use Rattle.std.specs.Prelude.{slice_get, length, refl}
+use Rattle.std.specs.Prelude.{◌≡◌, ◌<◌, ◌+◌, Option, None, position, is_some, take, ℕ, Bool, true}
+use Rattle.std.specs.Prelude.{false, if◌then◌else◌, List, [], ◌∷◌, ◌++◌, Some, slice_get, length}
+use Rattle.std.specs.Prelude.{refl}
 use Rattle.std.specs.List.{IsDistinct, list_any}
-use Rattle.std.proofs.Common.{inl, inr, arith, ap, sym, ◌∙◌, subst, true≢false, get_or}
-use Rattle.std.proofs.Common.{add-one, take_all}
+use Rattle.std.proofs.Common.{inl, inr, arith, ap, sym, ◌∙◌, subst, true≢false, get_or, add-one}
+use Rattle.std.proofs.Common.{take_all}
 use Rattle.std.proofs.lemmas.List.Quantifiers.{position-Some}
 use Rattle.std.proofs.Math.Seq.{take-suc}
 use Rattle.std.proofs.lemmas.Option.{slice_get_within, get_or_from_slice_get, slice_get-get_or}

@@ -3,17 +3,16 @@ use Rattle.std.specs.Prelude.{◌≡◌, ◌⊎◌, ◌<◌, ◌+◌, ℕ, List,
 use Rattle.std.proofs.Common.{inl, inr, arith, ap, sym, subst}
 use Rattle.std.proofs.lemmas.Option.{slice_get_within}
 use Rattle.std.proofs.lemmas.Bool.{cases_lt}
-use Rattle.expr_dag.specs.fx_model.declared.ExprId.{ExprId}
-use Rattle.expr_dag.specs.fx_model.declared.Node.{Node}
-use Rattle.expr_dag.specs.fx_model.declared.Node.TheVariants.{Var, Lit, Neg, Add, Sub, Mul, Div}
-use Rattle.expr_dag.specs.fx_model.declared.Node.TheVariants.{Abs, Round}
+use Rattle.fx_model.specs.declared.ExprId.{ExprId}
+use Rattle.fx_model.specs.declared.Node.{Node}
+use Rattle.fx_model.specs.declared.Node.TheVariants.{Var, Lit, Neg, Add, Sub, Mul, Div, Abs, Round}
 use Rattle.expr_dag.specs.Nodes.{IsAt, one_node}
 use Rattle.pair_closure.specs.Reached.{Has}
 use Rattle.pair_closure.specs.Closure.{Pair, IsRounding}
 use Rattle.pair_closure.specs.Grown.{IsGrown}
 use Rattle.pair_closure.specs.Roundings.{rounding_at}
 use Rattle.pair_closure.proofs.Grown.{grown_none, grown_both, grown_same}
-use Rattle.pair_closure.proofs.Listed.{no_member, has_first, has_cases}
+use Rattle.pair_closure.specs.Members.{no_member, has_first, has_cases}
 
 -- a rounding that stands below place i
 abbrev pub IsRoundingBelow : List Node → ℕ → Pair → Type 0

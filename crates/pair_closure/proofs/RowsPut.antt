@@ -4,10 +4,9 @@ use Rattle.std.specs.Prelude.{[], ◌∷◌, ◌++◌, Some, None, Option, map, 
 use Rattle.std.specs.Prelude.{refl}
 use Rattle.std.specs.Option.{option_map}
 use Rattle.std.proofs.Common.{inl, inr, arith, ap, sym, ◌∙◌, length-set}
-use Rattle.std.proofs.lemmas.Option.{slice_get_within}
-use Rattle.std.proofs.lemmas.Option.{slice_get-map}
+use Rattle.std.proofs.lemmas.Option.{slice_get_within, slice_get-map}
 use Rattle.std.proofs.lemmas.List.{length-map, append-nil}
-use Rattle.expr_dag.specs.fx_model.declared.ExprId.{ExprId}
+use Rattle.fx_model.specs.declared.ExprId.{ExprId}
 use Rattle.pair_closure.specs.Reached.{Has}
 use Rattle.pair_closure.specs.Members.{some-inj, none_at, no_member, has_first, has_cases}
 use Rattle.pair_closure.specs.Members.{has_either}

@@ -1,8 +1,8 @@
 -- Comparing numbers of expressions.
 use Rattle.std.specs.Prelude.{◌≡◌, ◌≢◌, ◌==◌, Bool, true, false, List, refl}
 use Rattle.std.proofs.Common.{eqb-true, eq-eqb, sym, ◌∙◌, ap, subst, true≢false}
-use Rattle.expr_dag.specs.fx_model.declared.ExprId.{ExprId}
-use Rattle.expr_dag.specs.fx_model.declared.Node.{Node}
+use Rattle.fx_model.specs.declared.ExprId.{ExprId}
+use Rattle.fx_model.specs.declared.Node.{Node}
 use Rattle.expr_dag.specs.Nodes.{IsAt}
 
 -- expressions with one number are one

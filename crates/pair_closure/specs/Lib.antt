@@ -1,5 +1,3 @@
--- What callers name of the crates below.
-pub use Rattle.expr_dag.specs as expr_dag
 pub mod Reached
 pub mod Members
 pub mod Rising

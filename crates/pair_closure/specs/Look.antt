@@ -5,13 +5,13 @@ use Rattle.std.proofs.lemmas.Option.{slice_get_within, get_or_from_slice_get}
 use Rattle.std.proofs.lemmas.List.Folds.{list_any_at}
 use Rattle.std.proofs.lemmas.Bool.{and_parts}
 use Rattle.indexmap.proofs.CallerLemmas.{Contains-list_any}
-use Rattle.expr_dag.specs.fx_model.declared.ExprId.{ExprId}
-use Rattle.expr_dag.specs.fx_model.contracts.ExprIdPartialEq.TheImpl as id_eq
+use Rattle.fx_model.specs.declared.ExprId.{ExprId}
+use Rattle.fx_model.specs.contracts.ExprIdPartialEq.TheImpl as id_eq
+use Rattle.expr_dag.specs.Same.{same_id}
 use Rattle.pair_closure.specs.Closure.{Pair}
 use Rattle.pair_closure.specs.Reached.{Has}
 use Rattle.pair_closure.specs.Members.{has_from_contains}
 use Rattle.pair_closure.specs.Among.{same_pair, is_among}
-use Rattle.expr_dag.specs.Same.{same_id}
 
 pub exact : (p q : Pair) → same_pair p q ≡ true → p ≡ q
 exact p q h =

@@ -1,7 +1,7 @@
 -- What the second sides of a first side are, and that none stands twice.
 use Rattle.std.specs.Prelude.{◌≡◌, ◌↔◌, Bool, true, false, if◌then◌else◌, List, [], ◌∷◌, refl}
 use Rattle.std.proofs.Common.{inl, inr, ap, sym, subst}
-use Rattle.expr_dag.specs.fx_model.declared.ExprId.{ExprId}
+use Rattle.fx_model.specs.declared.ExprId.{ExprId}
 use Rattle.pair_closure.specs.Reached.{Has, IsEachOnce}
 use Rattle.pair_closure.specs.Members.{no_member, has_first, has_rest, has_cases, once_nil}
 use Rattle.pair_closure.specs.Members.{once_cons, once_tail, once_front}

@@ -10,7 +10,8 @@ use crate::differences::close;
 use crate::follow::follow_all;
 use crate::index::PairIndex;
 use crate::order::in_order;
-use expr_dag::{Dag, DagFault, ExprId};
+use expr_dag::{Dag, DagFault};
+use fx_model::ExprId;
 use std::alloc::{AllocError, Global};
 
 /// Why there is no closure.

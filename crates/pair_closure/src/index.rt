@@ -2,14 +2,14 @@
 
 ghost use Rattle.std.specs.Prelude.{◌≡◌, ◌<◌, ◌↔◌, ◌++◌, ◌∷◌, [], List, length, vec_len, map, IfOk};
 ghost use Rattle.std.specs.Prelude.{OnOk};
-ghost use Rattle.expr_dag.specs.fx_model.declared.ExprId.{ExprId};
+ghost use Rattle.fx_model.specs.declared.ExprId.{ExprId};
 ghost use Rattle.pair_closure.specs.Reached.{Has, IsEachOnce};
 ghost use Rattle.pair_closure.specs.Among.{is_among, IsPlaceOf};
 ghost use Rattle.pair_closure.specs.Closure.{Pair as Sides, AreBelow};
 ghost use Rattle.pair_closure.specs.Rows.{seconds, IsIndexed};
 
 use crate::pairs::PairSet;
-use expr_dag::ExprId;
+use fx_model::ExprId;
 use std::alloc::{AllocError, Global};
 use std::marker::Model;
 

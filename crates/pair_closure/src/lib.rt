@@ -1,8 +1,6 @@
 //! Which pairs of expressions are compared, and which expressions that takes.
 #![tactic(auto)]
 
-// What callers name of the crates below.
-pub use expr_dag::Dag;
 
 mod closure;
 mod differences;
@@ -14,7 +12,6 @@ mod pair;
 mod pairs;
 
 pub use closure::{Closure, ClosureFault, closure_of};
-pub use expr_dag::{ExprId, Node};
 pub use index::PairIndex;
 pub use laws::closures_are_one;
 pub use pairs::PairSet;

@@ -2,9 +2,9 @@
 
 ghost use Rattle.std.specs.Prelude.{◌≡◌, ◌<◌, ◌≤◌, ◌↔◌, ◌++◌, ◌∷◌, [], ℕ, Some, length, slice_get};
 ghost use Rattle.std.specs.Prelude.{map, IfOk, OnOk};
-ghost use Rattle.expr_dag.specs.fx_model.declared.ExprId.{ExprId};
-ghost use Rattle.expr_dag.specs.fx_model.declared.Node.{Node};
-ghost use Rattle.expr_dag.specs.fx_model.declared.Node.TheVariants as node;
+ghost use Rattle.fx_model.specs.declared.ExprId.{ExprId};
+ghost use Rattle.fx_model.specs.declared.Node.{Node};
+ghost use Rattle.fx_model.specs.declared.Node.TheVariants as node;
 ghost use Rattle.expr_dag.specs.Nodes.{IsAt, IsAbsent};
 ghost use Rattle.pair_closure.specs.Reached.{Has};
 ghost use Rattle.pair_closure.specs.Grown.{IsGrown};
@@ -12,7 +12,8 @@ ghost use Rattle.pair_closure.specs.Closure.{Pair as Sides, AreKnown, difference
 ghost use Rattle.pair_closure.specs.Differences.{IsBehind, sides_of, IsKnownDifference};
 
 use crate::pairs::PairSet;
-use expr_dag::{Dag, ExprId, Node};
+use expr_dag::Dag;
+use fx_model::{ExprId, Node};
 use std::alloc::{AllocError, Global};
 
 // Adds the sides of a difference.

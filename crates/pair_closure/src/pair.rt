@@ -6,7 +6,7 @@ ghost use Rattle.std.proofs.Common.{rules};
 ghost use Rattle.pair_closure.specs.Hashed.{hashed};
 ghost use Rattle.pair_closure.specs.Closure.{rank};
 
-use expr_dag::ExprId;
+use fx_model::ExprId;
 use std::hash::{Hash, Hasher};
 use std::marker::Model;
 
@@ -18,7 +18,7 @@ pub struct Pair {
 }
 
 impl Model for Pair {
-    ghost use Rattle.expr_dag.specs.fx_model.declared.ExprId.{ExprId};
+    ghost use Rattle.fx_model.specs.declared.ExprId.{ExprId};
 
     ghost Value = { ExprId × ExprId };
 

@@ -7,7 +7,7 @@ ghost use Rattle.pair_closure.specs.Closure.{Pair as Sides, AreBelow, AreRising}
 ghost use Rattle.pair_closure.specs.Among.{is_among, IsPlaceOf};
 
 use crate::pair::Pair;
-use expr_dag::ExprId;
+use fx_model::ExprId;
 use indexmap::IndexSet;
 use std::alloc::{AllocError, Global};
 use std::marker::Model;

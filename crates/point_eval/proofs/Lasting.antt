@@ -6,25 +6,25 @@ use Rattle.std.proofs.Common.{sym, ap, ◌∙◌, subst, append_assoc, Vec, Glob
 use Rattle.fx_model.specs.Expression.{Assignment, value}
 use Rattle.fx_model.specs.declared.Node.{Node}
 use Rattle.facts.specs.declared.hint.HintMark.{HintMark}
-use Rattle.script_meets.specs.script_claims.declared.claim.Claim.{Claim}
-use Rattle.script_meets.specs.script_claims.declared.claim.Claim.TheVariants as claim
-use Rattle.rewrite_hints.specs.script_hints.declared.hint.Constraint.{Constraint}
-use Rattle.rewrite_hints.specs.script_hints.declared.hint.Constraint.TheVariants as constraint
-use Rattle.rewrite_hints.specs.script_hints.declared.hint.Hint.{Hint}
-use Rattle.script_meets.specs.script_grammar.Spells.{View}
-use Rattle.script_meets.specs.script_grammar.Names.{ClaimIsOf, ConstraintIsOf, HintIsOf, NamesNodes}
-use Rattle.script_meets.specs.script_grammar.Ranges.{HasFewCases}
+use Rattle.facts.specs.CommonParts.{all_as}
 use Rattle.script_cases.specs.Cases.{cases}
 use Rattle.script_cases.specs.Counted.{all_of_cases}
-use Rattle.point_values.specs.Among.{IsAmong, AreAmong}
+use Rattle.script_claims.specs.declared.claim.Claim.{Claim}
+use Rattle.script_claims.specs.declared.claim.Claim.TheVariants as claim
+use Rattle.script_hints.specs.declared.hint.Constraint.{Constraint}
+use Rattle.script_hints.specs.declared.hint.Constraint.TheVariants as constraint
+use Rattle.script_hints.specs.declared.hint.Hint.{Hint}
+use Rattle.script_grammar.specs.Spells.{View}
+use Rattle.script_grammar.specs.Names.{ClaimIsOf, ConstraintIsOf, HintIsOf, NamesNodes}
+use Rattle.script_grammar.specs.Ranges.{HasFewCases}
 use Rattle.script_meets.specs.Meets.{Meets}
+use Rattle.point_values.specs.Among.{IsAmong, AreAmong}
 use Rattle.point_values.specs.Text.{Bytes, hypothesis_line, goal_line, hint_line, lines_from}
 use Rattle.point_values.specs.Text.{point_line}
 use Rattle.point_values.specs.Rows.{Row}
 use Rattle.point_values.specs.Evaluation.{Subject, subject_of, evaluation_of, meets}
 use Rattle.point_values.specs.Within.{ClaimIsWithin, ConstraintIsWithin, HintIsWithin, AreWithin}
 use Rattle.point_eval.specs.Judged.{judged_of, EndsIn}
-use Rattle.facts.specs.CommonParts.{all_as}
 
 -- ---- the last line
 line_of_true : (b : Bool) → IsTrue b → point_line b ≡ codes "point: meets\n"

@@ -9,12 +9,12 @@ use Rattle.facts.specs.declared.hint.HintMark.{HintMark}
 use Rattle.facts.specs.declared.hint.HintMark.TheVariants as mark
 use Rattle.script_cases.specs.Cases.{cases}
 use Rattle.script_cases.specs.Met.{SomeOf, met_in_some_case}
-use Rattle.script_meets.specs.script_claims.Meets.{IsTrueAt}
-use Rattle.script_meets.specs.script_claims.declared.claim.Claim.{Claim}
-use Rattle.rewrite_hints.specs.script_hints.Meets.{MeetsHint}
-use Rattle.rewrite_hints.specs.script_hints.declared.hint.Hint.{Hint}
-use Rattle.rewrite_hints.specs.Marks.{IsMarkOf}
+use Rattle.script_claims.specs.Meets.{IsTrueAt}
+use Rattle.script_claims.specs.declared.claim.Claim.{Claim}
+use Rattle.script_hints.specs.Meets.{MeetsHint}
+use Rattle.script_hints.specs.declared.hint.Hint.{Hint}
 use Rattle.script_meets.specs.Meets.{IsAssumed}
+use Rattle.rewrite_hints.specs.Marks.{IsMarkOf}
 use Rattle.point_values.specs.Truth.{claim_holds, marked_holds}
 use Rattle.point_values.specs.Told.{ClaimsAreTold, HintsAreTold}
 use Rattle.point_values.specs.Evaluation.{pairs}

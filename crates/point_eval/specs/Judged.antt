@@ -1,8 +1,8 @@
 -- What is judged of a script at a point.
 use Rattle.std.specs.Prelude.{◌≡◌, ◌++◌, List}
-use Rattle.script_cases.specs.Cases.{cases}
 use Rattle.facts.specs.declared.hint.HintMark.{HintMark}
-use Rattle.script_meets.specs.script_grammar.Spells.{View}
+use Rattle.script_cases.specs.Cases.{cases}
+use Rattle.script_grammar.specs.Spells.{View}
 use Rattle.point_values.specs.Text.{Bytes}
 use Rattle.point_values.specs.Evaluation.{Subject, subject_of}
 

@@ -1,7 +1,7 @@
 -- Points of a script.
 use Rattle.std.specs.Prelude.{◌≡◌, List, length}
 use Rattle.std.specs.List.{AllByRecursion}
-use Rattle.rewrite_hints.specs.script_nodes.Known.{Name}
+use Rattle.script_nodes.specs.Known.{Name}
 use Rattle.point_values.specs.Rows.{Row, IsRow}
 
 -- one row for each variable

@@ -2,9 +2,9 @@
 use Rattle.std.specs.Prelude.{◌↔◌, List, IsTrue}
 use Rattle.fx_model.specs.Expression.{Assignment}
 use Rattle.facts.specs.declared.hint.HintMark.{HintMark}
-use Rattle.rewrite_hints.specs.Marks.{AreMarks}
-use Rattle.script_meets.specs.script_grammar.Spells.{View}
+use Rattle.script_grammar.specs.Spells.{View}
 use Rattle.script_meets.specs.Meets.{Meets}
+use Rattle.rewrite_hints.specs.Marks.{AreMarks}
 use Rattle.point_values.specs.Evaluation.{meets}
 use Rattle.point_eval.specs.Judged.{judged_of}
 

@@ -3,9 +3,9 @@
 ghost use Rattle.std.specs.Prelude.{◌≡◌, All, Err, IfOk, codes, map};
 ghost use Rattle.std.specs.List.{AllByRecursion};
 ghost use Rattle.script_cases.specs.Cases.{cases};
-ghost use Rattle.script_meets.specs.script_claims.Facts.{HasNormalBounds};
-ghost use Rattle.rewrite_hints.specs.Marks.{AreMarks};
+ghost use Rattle.script_claims.specs.Facts.{HasNormalBounds};
 ghost use Rattle.script_meets.specs.Meets.{Meets};
+ghost use Rattle.rewrite_hints.specs.Marks.{AreMarks};
 ghost use Rattle.point_values.specs.Rows.{assignment_of};
 ghost use Rattle.point_values.specs.Evaluation.{IsTooWide, IsNarrow, evaluation_of};
 ghost use Rattle.point_eval.specs.Points.{AreRowsOf};
@@ -15,7 +15,8 @@ use crate::laws::meeting_is_told;
 use crate::point::Point;
 use facts::HintMark;
 use point_values::{EvalStop, Place};
-use script_meets::{Claim, Script};
+use script_claims::Claim;
+use script_grammar::Script;
 use std::alloc::{AllocError, Global};
 
 // The cases of the script's hypotheses, each with the claims that it takes.

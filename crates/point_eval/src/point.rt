@@ -1,7 +1,7 @@
 //! Points: a number for each variable of a script.
 
 use fx_edge::Items;
-use literal::Literal;
+use fx_model::Literal;
 use literal_order::Written;
 
 /// For each variable of a script, by its number, what it is set to: a number, or a number over a

@@ -4,7 +4,7 @@ use Rattle.std.proofs.Common.{IfOk, Ok, Err, Result}
 use Rattle.script_words.specs.Lex.{LexesOnce}
 use Rattle.script_nodes.specs.Known.{Name}
 use Rattle.script_nodes.specs.Literals.{ReadsLiterals}
-use Rattle.point_eval.specs.point_values.Rows.{Row}
+use Rattle.point_values.specs.Rows.{Row}
 use Rattle.point_eval.specs.declared.point.Point.{Point}
 use Rattle.point_text.specs.declared.fault.PointFault.{PointFault}
 use Rattle.point_text.specs.declared.fault.PointStop.{PointStop}

@@ -7,7 +7,7 @@ use Rattle.fx_model.specs.declared.Literal.{Literal}
 use Rattle.literal.specs.Normal.{IsReading}
 use Rattle.script_nodes.specs.Known.{Name}
 use Rattle.script_nodes.specs.Literals.{ReadsLiterals}
-use Rattle.point_eval.specs.point_values.Rows.{Row}
+use Rattle.point_values.specs.Rows.{Row}
 use Rattle.point_text.specs.Points.{Part, name, literal, slash, Entry, entries_parts, IsRowOf}
 use Rattle.point_text.specs.Points.{IsDivisorOf}
 use Rattle.point_text.proofs.Places.{push_cases}

@@ -9,27 +9,28 @@ use Rattle.std.proofs.lemmas.Slice.Eq.{bytes_eq-Decides}
 use Rattle.fx_model.specs.declared.Rounding.{Rounding}
 use Rattle.fx_model.specs.declared.ExprId.{ExprId}
 use Rattle.fx_model.specs.declared.Node.{Node}
-use Rattle.script_shape.specs.Tree.{Expr, term, sum, difference, Term, factor, product, quotient}
-use Rattle.script_shape.specs.Tree.{Factor, negation, atom, Atom, number, variable, parenthesized}
-use Rattle.script_shape.specs.Tree.{absolute, called, rounded, fused, Prop, lies_in, relative_in}
-use Rattle.script_shape.specs.Tree.{at_most, at_least, multiple, Stated, affirmed, denied, Formula}
-use Rattle.script_shape.specs.Tree.{single, and, or, implies, Need, nonzero, below, not_above}
-use Rattle.script_shape.specs.Tree.{above, not_below, NeedList, last_need, more_needs, Needs}
-use Rattle.script_shape.specs.Tree.{always, provided, Names, last_name, more_names, Halving}
-use Rattle.script_shape.specs.Tree.{halved_by, with_goal, Hint, rewrite, like, split, halving}
-use Rattle.script_shape.specs.Tree.{Hints, no_hint, hint, Definition, names_operator, names_value}
-use Rattle.script_shape.specs.Tree.{Script, formula, define}
+use Rattle.script_shape.specs.Expressions.{Expr, term, sum, difference, Term, factor, product}
+use Rattle.script_shape.specs.Expressions.{quotient, Factor, negation, atom, Atom, number, variable}
+use Rattle.script_shape.specs.Expressions.{parenthesized, absolute, called, rounded, fused}
+use Rattle.script_shape.specs.Propositions.{Prop, lies_in, relative_in, at_most, at_least, multiple}
+use Rattle.script_shape.specs.Propositions.{Stated, affirmed, denied, Formula, single, and, or}
+use Rattle.script_shape.specs.Propositions.{implies}
+use Rattle.script_shape.specs.Hints.{Need, nonzero, below, not_above, above, not_below, NeedList}
+use Rattle.script_shape.specs.Hints.{last_need, more_needs, Needs, always, provided, Names}
+use Rattle.script_shape.specs.Hints.{last_name, more_names, Halving, halved_by, with_goal, Hint}
+use Rattle.script_shape.specs.Hints.{rewrite, like, split, halving, Hints, no_hint, hint}
+use Rattle.script_shape.specs.Tree.{Definition, names_operator, names_value, Script, formula}
+use Rattle.script_shape.specs.Tree.{define}
 use Rattle.script_nodes.specs.Known.{Name, Known, PlacedNode, nothing_known, put, variables_with}
 use Rattle.script_nodes.specs.Known.{variable_put, name_put, named, entry_of}
 use Rattle.script_nodes.specs.Values.{then_rounded, expr_value, term_value, factor_value}
 use Rattle.script_nodes.specs.Values.{atom_value}
 use Rattle.script_nodes.specs.Definitions.{name_text, rounding_by, definition_value}
-use Rattle.point_eval.specs.script_claims.Claims.{prop_claim, stated_claim, formula_claims}
-use Rattle.point_eval.specs.script_hints.Hints.{NeedsSoFar, with_need, with_need_list, needs_value}
-use Rattle.point_eval.specs.script_hints.Hints.{HintsSoFar, no_hints, with_names, with_halving}
-use Rattle.point_eval.specs.script_hints.Hints.{with_hint, with_hints}
-use Rattle.point_eval.specs.script_grammar.Meaning.{meaning_from}
-use Rattle.point_eval.specs.script_grammar.Spells.{View, Spells}
+use Rattle.script_claims.specs.Claims.{prop_claim, stated_claim, formula_claims}
+use Rattle.script_hints.specs.Hints.{NeedsSoFar, with_need, with_need_list, needs_value, HintsSoFar}
+use Rattle.script_hints.specs.Hints.{no_hints, with_names, with_halving, with_hint, with_hints}
+use Rattle.script_grammar.specs.Meaning.{meaning_from}
+use Rattle.script_grammar.specs.Spells.{View, Spells}
 use Rattle.point_text.proofs.Places.{push_cases, AreDistinct}
 
 abbrev Distinct : Known → Type 0

@@ -9,7 +9,7 @@ use Rattle.script_words.specs.declared.lex.Token.{Token}
 use Rattle.script_words.specs.declared.lex.TokenKind.{TokenKind}
 use Rattle.script_words.specs.declared.lex.TokenKind.TheVariants as kind
 use Rattle.script_words.specs.Named.{token_text}
-use Rattle.point_eval.specs.point_values.Rows.{Row}
+use Rattle.point_values.specs.Rows.{Row}
 use Rattle.point_text.specs.Points.{Part, name, literal, equal, plus, minus, slash, semicolon}
 use Rattle.point_text.specs.Points.{part_of, parts_of, Mark, unmarked, with_plus, with_minus, Entry}
 use Rattle.point_text.specs.Points.{mark_parts, divisor_parts, entry_parts, entries_parts, is_minus}

@@ -6,24 +6,24 @@ use Rattle.std.specs.Option.{option_map}
 use Rattle.std.proofs.Common.{arith, sym, ap, ◌∙◌, subst, inl, inr, append_assoc, append-nil}
 use Rattle.std.proofs.Common.{length-append}
 use Rattle.std.proofs.Math.ListN.{set, length-set}
+use Rattle.std.proofs.lemmas.Option.{none-some, same_Some, slice_get-map}
+use Rattle.std.specs.declared.result.Result.{Result}
+use Rattle.std.specs.declared.result.Result.TheVariants.{Err}
 use Rattle.fx_model.specs.declared.Literal.{Literal}
 use Rattle.script_words.specs.declared.class.Symbol.TheVariants as s
 use Rattle.script_words.specs.declared.lex.TokenKind.{TokenKind}
-use Rattle.std.proofs.lemmas.Option.{none-some, same_Some, slice_get-map}
 use Rattle.script_words.specs.declared.lex.Token.{Token}
 use Rattle.script_words.specs.declared.lex.TokenKind.TheVariants as kind
 use Rattle.script_words.specs.Lex.{Lexes}
 use Rattle.script_words.specs.Named.{token_text}
 use Rattle.script_nodes.specs.Known.{Name}
-use Rattle.point_eval.specs.point_values.Rows.{Row}
+use Rattle.point_values.specs.Rows.{Row}
 use Rattle.point_text.specs.Points.{parts_of, Entry, entry_parts, entries_parts, IsRowOf}
 use Rattle.point_text.specs.Points.{IsShortText, SpellsPoint}
 use Rattle.point_text.specs.Taken.{IsFirst, IsNameTaken, IsRowTaken, IsTaken, IsLiteralTaken}
 use Rattle.point_text.specs.Taken.{IsSignTaken, IsDivisorTaken}
 use Rattle.point_text.proofs.Standing.{parts_append}
 use Rattle.point_text.specs.Gathered.{Gathering, Gathered, gathered, IsUnset, IsMissing}
-use Rattle.std.specs.declared.result.Result.{Result}
-use Rattle.std.specs.declared.result.Result.TheVariants.{Err}
 use Rattle.point_text.specs.declared.fault.PointFault.{PointFault}
 use Rattle.point_text.specs.declared.fault.PointKind.TheVariants as fault
 use Rattle.point_text.specs.declared.fault.PointStop.{PointStop}

@@ -1,13 +1,12 @@
 -- A variable without an entry, once all entries have been read.
-use Rattle.std.specs.Prelude.{◌≡◌, ℕ, List, [], length, slice_get, Option, Some, None, refl}
-use Rattle.std.specs.Prelude.{map}
+use Rattle.std.specs.Prelude.{◌≡◌, ℕ, List, [], length, slice_get, Option, Some, None, refl, map}
 use Rattle.std.proofs.Common.{sym, ap, ◌∙◌, subst, arith, Vec, Global, IfOk, Ok, Err, Result}
 use Rattle.std.proofs.lemmas.Option.{slice_get_within}
 use Rattle.script_words.specs.declared.lex.Token.{Token}
 use Rattle.script_words.specs.Lex.{Lexes}
 use Rattle.script_nodes.specs.Known.{Name}
 use Rattle.script_nodes.specs.Literals.{ReadsLiterals}
-use Rattle.point_eval.specs.point_values.Rows.{Row}
+use Rattle.point_values.specs.Rows.{Row}
 use Rattle.point_text.specs.declared.fault.PointFault.{PointFault}
 use Rattle.point_text.specs.Points.{name, parts_of, IsShortText, SpellsPoint}
 use Rattle.point_text.specs.PointFaults.{IsPointFault, end_of}

@@ -6,6 +6,7 @@ use Rattle.std.proofs.lemmas.Bool.{cases_lt}
 use Rattle.std.proofs.lemmas.List.{take-take}
 use Rattle.std.proofs.lemmas.Str.{utf8_valid_len-IsValidUpTo}
 use Rattle.script_words.specs.Lex.{LexesOnce}
+use Rattle.script_words.specs.Utf8.{no_both}
 use Rattle.script_nodes.specs.Known.{Name}
 use Rattle.point_text.specs.declared.fault.PointKind.{PointKind}
 use Rattle.point_text.specs.declared.fault.PointKind.TheVariants as kind
@@ -16,7 +17,6 @@ use Rattle.point_text.specs.PointFaults.{cut_short, unknown, twice, zero_divisor
 use Rattle.point_text.specs.PointFaults.{missing, number, IsNotAfter, IsPointFault, too_long}
 use Rattle.point_text.specs.PointFaults.{not_text, first}
 use Rattle.point_text.proofs.Spelled.{front_split}
-use Rattle.script_words.specs.Utf8.{no_both}
 
 -- ---- a text is read to one token
 

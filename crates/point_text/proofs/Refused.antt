@@ -12,7 +12,7 @@ use Rattle.script_words.specs.Lex.{Lexes}
 use Rattle.script_words.specs.Named.{token_text}
 use Rattle.script_nodes.specs.Known.{Name}
 use Rattle.script_nodes.specs.Literals.{ReadsLiterals}
-use Rattle.point_eval.specs.point_values.Rows.{Row}
+use Rattle.point_values.specs.Rows.{Row}
 use Rattle.point_text.specs.declared.fault.PointKind.TheVariants as kind
 use Rattle.point_text.specs.declared.fault.PointFault.{PointFault}
 use Rattle.point_text.specs.Points.{Part, name, literal, equal, plus, minus, slash, part_of}

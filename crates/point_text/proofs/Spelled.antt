@@ -6,9 +6,10 @@ use Rattle.std.proofs.lemmas.Option.{none-some, same_Some, slice_get_within}
 use Rattle.std.proofs.lemmas.Bool.{cases_lt}
 use Rattle.fx_model.specs.declared.Literal.{Literal}
 use Rattle.script_words.specs.Lex.{LexesOnce}
+use Rattle.script_words.specs.Utf8.{no_both}
 use Rattle.script_nodes.specs.Known.{Name}
 use Rattle.script_nodes.specs.Literals.{ReadsLiterals}
-use Rattle.point_eval.specs.point_values.Rows.{Row}
+use Rattle.point_values.specs.Rows.{Row}
 use Rattle.point_text.specs.declared.fault.PointKind.{PointKind}
 use Rattle.point_text.specs.declared.fault.PointFault.{PointFault}
 use Rattle.point_text.specs.Points.{Part, name, literal, plus, minus, slash, parts_of, Mark}
@@ -21,7 +22,6 @@ use Rattle.point_text.proofs.Parts.{has_name}
 use Rattle.point_text.proofs.Clean.{IsClean, AreSound, entries_clean}
 use Rattle.point_text.proofs.Starts.{starts}
 use Rattle.point_text.proofs.Standing.{length_parts, start_of, no_start_past}
-use Rattle.script_words.specs.Utf8.{no_both}
 
 -- ---- entries of a point
 

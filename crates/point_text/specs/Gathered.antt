@@ -1,14 +1,14 @@
 -- What the reading has gathered of a text's tokens.
 use Rattle.std.specs.Prelude.{◌≡◌, ◌≢◌, ℕ, List, [], ◌++◌, length, slice_get, Option, Some, None}
 use Rattle.script_words.specs.declared.lex.Token.{Token}
+use Rattle.script_words.specs.declared.lex.TokenKind.TheVariants as kind
 use Rattle.script_nodes.specs.Known.{Name}
-use Rattle.point_eval.specs.point_values.Rows.{Row}
+use Rattle.point_values.specs.Rows.{Row}
 use Rattle.point_text.specs.Points.{parts_of, Entry, entries_parts, IsRowOf}
 use Rattle.point_text.specs.Taken.{IsFirst, IsNameTaken, StartsAt, HasKind, IsUnexpected}
 use Rattle.point_text.specs.Taken.{IsPlaceRefused, IsRowRefused}
 use Rattle.point_text.specs.declared.fault.PointFault.{PointFault}
 use Rattle.point_text.specs.declared.fault.PointKind.TheVariants as fault
-use Rattle.script_words.specs.declared.lex.TokenKind.TheVariants as kind
 
 -- The tokens before those that are left are entries, no two of one variable, and the rows that are
 -- set are theirs.

@@ -1,7 +1,7 @@
 -- A text spells one point, or has one fault.
 use Rattle.std.specs.Prelude.{◌≡◌, ℕ, List}
 use Rattle.script_nodes.specs.Known.{Name}
-use Rattle.point_eval.specs.point_values.Rows.{Row}
+use Rattle.point_values.specs.Rows.{Row}
 use Rattle.point_text.specs.declared.fault.PointFault.{PointFault}
 use Rattle.point_text.specs.Points.{SpellsPoint}
 use Rattle.point_text.specs.PointFaults.{IsPointFault}

@@ -5,7 +5,6 @@ use Rattle.std.specs.Prelude.{Option, Some, None, Bool, true, false}
 use Rattle.std.specs.Str.{IsUtf8}
 use Rattle.fx_model.specs.declared.Literal.{Literal}
 use Rattle.literal.specs.Normal.{IsNormal, IsReading}
-use Rattle.point_eval.specs.point_values.Rows.{Row, IsRow}
 use Rattle.script_words.specs.declared.class.Symbol.TheVariants as s
 use Rattle.script_words.specs.declared.lex.Token.{Token}
 use Rattle.script_words.specs.declared.lex.TokenKind.{TokenKind}
@@ -13,6 +12,7 @@ use Rattle.script_words.specs.declared.lex.TokenKind.TheVariants as kind
 use Rattle.script_words.specs.Lex.{Lexes}
 use Rattle.script_words.specs.Named.{token_text}
 use Rattle.script_nodes.specs.Known.{Name}
+use Rattle.point_values.specs.Rows.{Row, IsRow}
 
 -- ---- tokens with their texts; a sign's own text says nothing more
 pub data Part : Type 0 where

@@ -9,9 +9,9 @@ use Rattle.script_words.specs.declared.lex.TokenKind.{TokenKind}
 use Rattle.script_words.specs.declared.lex.TokenKind.TheVariants as kind
 use Rattle.script_words.specs.Named.{token_text}
 use Rattle.script_nodes.specs.Known.{Name}
+use Rattle.point_values.specs.Rows.{Row}
 use Rattle.point_text.specs.declared.fault.PointKind.TheVariants as fault
 use Rattle.point_text.specs.declared.fault.PointFault.{PointFault}
-use Rattle.point_eval.specs.point_values.Rows.{Row}
 use Rattle.point_text.specs.Points.{IsUnread}
 
 -- a token of this kind, and those behind it

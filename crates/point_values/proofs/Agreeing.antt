@@ -6,14 +6,15 @@ use Rattle.std.specs.List.{AllByRecursion, list_all, list_any, flat_map}
 use Rattle.std.proofs.Common.{ap, ◌∙◌}
 use Rattle.fx_model.specs.Fraction.{Fraction, is_zero_ℚ}
 use Rattle.fx_model.specs.declared.ExprId.{ExprId}
+use Rattle.exact_fractions.specs.Wide.{are_narrow, multiple_numbers}
 use Rattle.facts.specs.declared.hint.HintMark.{HintMark}
 use Rattle.facts.specs.declared.hint.HintMark.TheVariants as mark
+use Rattle.facts.specs.CommonParts.{all_as}
 use Rattle.script_claims.specs.declared.claim.Claim.{Claim}
 use Rattle.script_claims.specs.declared.claim.Claim.TheVariants as claim
 use Rattle.script_hints.specs.declared.hint.Constraint.{Constraint}
 use Rattle.script_hints.specs.declared.hint.Constraint.TheVariants as constraint
 use Rattle.script_hints.specs.declared.hint.Hint.{Hint}
-use Rattle.exact_fractions.specs.Wide.{are_narrow, multiple_numbers}
 use Rattle.point_values.specs.Numbers.{of_value, side_numbers, bound_numbers, error_of}
 use Rattle.point_values.specs.Numbers.{error_numbers, claim_numbers, constraint_numbers}
 use Rattle.point_values.specs.Numbers.{hint_numbers, marked_numbers, wide_from, or_else}
@@ -29,7 +30,6 @@ use Rattle.point_values.proofs.CaseClaims.{has_cases}
 use Rattle.point_values.specs.Within.{ClaimIsWithin, ConstraintIsWithin, HintIsWithin, AreWithin}
 use Rattle.point_values.specs.declared.place.Place.{Place}
 use Rattle.point_values.specs.declared.place.Place.TheVariants as place
-use Rattle.facts.specs.CommonParts.{all_as}
 
 -- ---- lists
 same_wide : {A : Type 0} (p : ℕ → Place) (f g : A → List ℤ) (k : ℕ) (xs : List A)

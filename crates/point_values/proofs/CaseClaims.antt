@@ -6,8 +6,8 @@ use Rattle.std.proofs.Common.{sym, subst}
 use Rattle.std.proofs.lemmas.Option.{none-some, same_Some}
 use Rattle.fx_model.specs.Fraction.{Fraction}
 use Rattle.fx_model.specs.declared.ExprId.{ExprId}
-use Rattle.script_claims.specs.declared.claim.Claim.{Claim}
 use Rattle.exact_fractions.specs.Wide.{are_narrow}
+use Rattle.script_claims.specs.declared.claim.Claim.{Claim}
 use Rattle.point_values.specs.Numbers.{claim_numbers, wide_from}
 use Rattle.point_values.specs.Among.{IsAmong, AreAmong, IsNarrowClaim}
 use Rattle.point_values.specs.declared.place.Place.{Place}

@@ -7,9 +7,9 @@ use Rattle.std.proofs.lemmas.List.{drop_all}
 use Rattle.std.proofs.Math.Seq.{drop-cons}
 use Rattle.fx_model.specs.Fraction.{Fraction}
 use Rattle.fx_model.specs.declared.ExprId.{ExprId}
+use Rattle.exact_fractions.specs.Wide.{are_narrow}
 use Rattle.facts.specs.declared.hint.HintMark.{HintMark}
 use Rattle.script_hints.specs.declared.hint.Hint.{Hint}
-use Rattle.exact_fractions.specs.Wide.{are_narrow}
 use Rattle.point_values.specs.Numbers.{marked_numbers, wide_from}
 use Rattle.point_values.specs.Truth.{marked_holds}
 use Rattle.point_values.specs.Text.{Bytes, hint_line, lines_from}

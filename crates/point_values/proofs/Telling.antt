@@ -1,4 +1,5 @@
 -- The tests of an evaluation tell what the definitions say.
+use lib.IntN.{neg_ℤ}
 use Rattle.std.specs.Prelude.{◌≡◌, ◌≢◌, ◌==◌, ◌&&◌, ◌||◌, not, ℕ, ℤ, List, [], ◌∷◌, Option, Some}
 use Rattle.std.specs.Prelude.{None, Bool, true, false, if◌then◌else◌, refl}
 use Rattle.std.specs.Option.{IsSomeAnd}
@@ -8,7 +9,6 @@ use Rattle.std.proofs.Common.{sym, ap, ◌∙◌, subst, inl, inr, ⊎_elim, lit
 use Rattle.std.proofs.lemmas.Bool.{eqb-true}
 use Rattle.std.proofs.lemmas.Nat.Gcd.{dvd_refl}
 use Rattle.std.proofs.Math.Nat.{one-dvd}
-use lib.IntN.{neg_ℤ}
 use Rattle.fx_model.specs.Fraction.{Fraction, ◌-ℚ◌, ◌*ℚ◌, ◌/ℚ◌, le_ℚ, ◌≤ℚ◌, ◌<ℚ◌, is_zero_ℚ}
 use Rattle.fx_model.specs.Fraction.{is_zero-zero, is_zero_out, is_zero_not, zero_ℚ, one_ℚ, le_refl}
 use Rattle.fx_model.specs.Fraction.{le_antisymm}
@@ -19,8 +19,12 @@ use Rattle.fx_model.specs.declared.Node.{Node}
 use Rattle.literal_order.specs.declared.written.Written.{Written}
 use Rattle.literal_order.specs.Values.{written_value}
 use Rattle.rounding.specs.Rounded.{units-times, units-scaled}
-use Rattle.script_hints.specs.script_bounds.Bounds.{written_range}
-use Rattle.script_hints.specs.script_bounds.Sides.{IsUnderWritten, IsOverWritten}
+use Rattle.exact_fractions.specs.Divisors.{gcd, gcd_of}
+use Rattle.exact_fractions.specs.Reduced.{numerator, denominator, over}
+use Rattle.exact_fractions.specs.Lowest.{over-mk, over_parts, denominator-over}
+use Rattle.exact_fractions.specs.Exact.{are_equal}
+use Rattle.script_bounds.specs.Bounds.{written_range}
+use Rattle.script_bounds.specs.Sides.{IsUnderWritten, IsOverWritten}
 use Rattle.script_claims.specs.Meets.{IsTrueAt, IsRelatedWithin}
 use Rattle.script_claims.specs.declared.claim.Claim.{Claim}
 use Rattle.script_claims.specs.declared.claim.Claim.TheVariants as claim
@@ -28,10 +32,6 @@ use Rattle.script_hints.specs.Meets.{HoldsAt, MeetsHint}
 use Rattle.script_hints.specs.declared.hint.Constraint.{Constraint}
 use Rattle.script_hints.specs.declared.hint.Constraint.TheVariants as constraint
 use Rattle.script_hints.specs.declared.hint.Hint.{Hint}
-use Rattle.exact_fractions.specs.Divisors.{gcd, gcd_of}
-use Rattle.exact_fractions.specs.Reduced.{numerator, denominator, over}
-use Rattle.exact_fractions.specs.Lowest.{over-mk, over_parts, denominator-over}
-use Rattle.exact_fractions.specs.Exact.{are_equal}
 use Rattle.point_values.specs.Numbers.{error_of}
 use Rattle.point_values.specs.Truth.{with_value, is_from, is_to, lies_within, are_zero, is_multiple}
 use Rattle.point_values.specs.Truth.{claim_holds, is_below, is_above, constraint_holds, agree}

@@ -3,11 +3,11 @@ use Rattle.std.specs.Prelude.{◌≡◌, List, length, map, Option, None}
 use Rattle.std.proofs.Common.{sym, ap, ◌∙◌, subst}
 use Rattle.fx_model.specs.Expression.{value}
 use Rattle.fx_model.specs.declared.Node.{Node}
+use Rattle.exact_fractions.specs.declared.exact.Exact.{Exact}
+use Rattle.exact_fractions.specs.Exact.{value_of}
 use Rattle.facts.specs.declared.hint.HintMark.{HintMark}
 use Rattle.script_claims.specs.declared.claim.Claim.{Claim}
 use Rattle.script_hints.specs.declared.hint.Hint.{Hint}
-use Rattle.exact_fractions.specs.declared.exact.Exact.{Exact}
-use Rattle.exact_fractions.specs.Exact.{value_of}
 use Rattle.point_values.specs.Known.{values_of}
 use Rattle.point_values.specs.Rows.{Row, assignment_of}
 use Rattle.point_values.specs.Numbers.{entry_numbers, node_numbers, wide_from, or_else}

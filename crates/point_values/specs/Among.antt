@@ -1,11 +1,10 @@
 -- Cases are made of hypotheses.
-use Rattle.std.specs.Prelude.{◌≡◌, ℕ, List, Some, true, slice_get}
+use Rattle.std.specs.Prelude.{◌≡◌, ℕ, List, Some, true, slice_get, Option}
 use Rattle.std.specs.List.{AllByRecursion}
 use Rattle.fx_model.specs.Fraction.{Fraction}
 use Rattle.fx_model.specs.declared.ExprId.{ExprId}
-use Rattle.std.specs.Prelude.{Option}
-use Rattle.script_claims.specs.declared.claim.Claim.{Claim}
 use Rattle.exact_fractions.specs.Wide.{are_narrow}
+use Rattle.script_claims.specs.declared.claim.Claim.{Claim}
 use Rattle.point_values.specs.Numbers.{claim_numbers}
 
 -- a claim is one of these

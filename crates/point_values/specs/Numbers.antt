@@ -6,17 +6,17 @@ use Rattle.fx_model.specs.Expression.{literal_value}
 use Rattle.fx_model.specs.declared.ExprId.{ExprId}
 use Rattle.fx_model.specs.declared.Node.{Node}
 use Rattle.fx_model.specs.declared.Node.TheVariants.{Var, Lit, Neg, Add, Sub, Mul, Div, Abs, Round}
-use Rattle.facts.specs.declared.hint.HintMark.{HintMark}
-use Rattle.facts.specs.declared.hint.HintMark.TheVariants as mark
 use Rattle.literal_order.specs.declared.written.Written.{Written}
 use Rattle.literal_order.specs.Values.{written_value}
+use Rattle.exact_fractions.specs.Wide.{are_narrow, numbers_of, sum_numbers, difference_numbers}
+use Rattle.exact_fractions.specs.Wide.{comparison_numbers, rounding_numbers, multiple_numbers}
+use Rattle.facts.specs.declared.hint.HintMark.{HintMark}
+use Rattle.facts.specs.declared.hint.HintMark.TheVariants as mark
 use Rattle.script_claims.specs.declared.claim.Claim.{Claim}
 use Rattle.script_claims.specs.declared.claim.Claim.TheVariants as claim
 use Rattle.script_hints.specs.declared.hint.Constraint.{Constraint}
 use Rattle.script_hints.specs.declared.hint.Constraint.TheVariants as constraint
 use Rattle.script_hints.specs.declared.hint.Hint.{Hint}
-use Rattle.exact_fractions.specs.Wide.{are_narrow, numbers_of, sum_numbers, difference_numbers}
-use Rattle.exact_fractions.specs.Wide.{comparison_numbers, rounding_numbers, multiple_numbers}
 use Rattle.point_values.specs.declared.place.Place.{Place}
 use Rattle.point_values.specs.Rows.{Row}
 

@@ -4,12 +4,12 @@ use Rattle.std.specs.Prelude.{true, false, if◌then◌else◌}
 use Rattle.std.specs.Fmt.{decimal, signed_decimal}
 use Rattle.fx_model.specs.Fraction.{Fraction}
 use Rattle.fx_model.specs.declared.ExprId.{ExprId}
+use Rattle.exact_fractions.specs.Reduced.{numerator, denominator}
 use Rattle.facts.specs.declared.hint.HintMark.{HintMark}
 use Rattle.facts.specs.declared.hint.HintMark.TheVariants as mark
 use Rattle.script_claims.specs.declared.claim.Claim.{Claim}
 use Rattle.script_claims.specs.declared.claim.Claim.TheVariants as claim
 use Rattle.script_hints.specs.declared.hint.Hint.{Hint}
-use Rattle.exact_fractions.specs.Reduced.{numerator, denominator}
 use Rattle.point_values.specs.Numbers.{error_of}
 use Rattle.point_values.specs.Truth.{are_zero, claim_holds, hint_holds}
 

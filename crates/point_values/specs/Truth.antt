@@ -1,21 +1,21 @@
 -- What holds of an assignment, as tests: claims and hints, with bounds exactly as they are written.
+use lib.IntN.{neg_ℤ}
 use Rattle.std.specs.Prelude.{ℤ, ◌==◌, ◌&&◌, ◌||◌, not, Option, Some, None, Bool, true, false}
 use Rattle.std.specs.List.{list_all}
-use lib.IntN.{neg_ℤ}
 use Rattle.fx_model.specs.Fraction.{Fraction, ◌*ℚ◌, le_ℚ, is_zero_ℚ}
 use Rattle.fx_model.specs.Powers.{two_to}
 use Rattle.fx_model.specs.declared.ExprId.{ExprId}
-use Rattle.facts.specs.declared.hint.HintMark.{HintMark}
-use Rattle.facts.specs.declared.hint.HintMark.TheVariants as mark
 use Rattle.literal_order.specs.declared.written.Written.{Written}
 use Rattle.literal_order.specs.Values.{written_value}
+use Rattle.exact_fractions.specs.Exact.{are_equal}
+use Rattle.exact_fractions.specs.Reduced.{denominator}
+use Rattle.facts.specs.declared.hint.HintMark.{HintMark}
+use Rattle.facts.specs.declared.hint.HintMark.TheVariants as mark
 use Rattle.script_claims.specs.declared.claim.Claim.{Claim}
 use Rattle.script_claims.specs.declared.claim.Claim.TheVariants as claim
 use Rattle.script_hints.specs.declared.hint.Constraint.{Constraint}
 use Rattle.script_hints.specs.declared.hint.Constraint.TheVariants as constraint
 use Rattle.script_hints.specs.declared.hint.Hint.{Hint}
-use Rattle.exact_fractions.specs.Exact.{are_equal}
-use Rattle.exact_fractions.specs.Reduced.{denominator}
 use Rattle.point_values.specs.Numbers.{error_of}
 
 -- ---- of parts that have values

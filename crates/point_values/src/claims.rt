@@ -2,9 +2,9 @@
 
 ghost use Rattle.std.specs.Prelude.{◌≡◌, ◌++◌, ◌||◌, [], true, Some};
 ghost use Rattle.literal_order.specs.Values.{IsWritten};
-ghost use Rattle.script_claims.specs.Facts.{HasNormalBounds};
 ghost use Rattle.exact_fractions.specs.Exact.{GivesTest};
 ghost use Rattle.exact_fractions.specs.Wide.{multiple_numbers};
+ghost use Rattle.script_claims.specs.Facts.{HasNormalBounds};
 ghost use Rattle.point_values.specs.Known.{fraction_of, values_of, GivesValue};
 ghost use Rattle.point_values.specs.Numbers.{of_value, side_numbers, bound_numbers, error_numbers};
 ghost use Rattle.point_values.specs.Numbers.{claim_numbers, error_of as spec_error_of};

@@ -10,7 +10,7 @@ ghost use Rattle.point_values.specs.declared.place.Place.TheVariants as place;
 
 use crate::place::{EvalStop, Place};
 use exact_fractions::Exact;
-use literal::Literal;
+use fx_model::Literal;
 use literal_order::Written;
 use std::alloc::Global;
 

@@ -17,7 +17,7 @@ use crate::place::{EvalStop, Place};
 use exact_fractions::Exact;
 use expr_dag::Dag;
 use facts::HintMark;
-use literal::Literal;
+use fx_model::Literal;
 use literal_order::Written;
 use script_claims::Claim;
 use script_hints::hint::Hint;

@@ -1,10 +1,10 @@
 //! Rewritings at a point.
 
 ghost use Rattle.std.specs.Prelude.{◌≡◌, All, not};
-ghost use Rattle.fx_model.specs.Fraction.{is_zero_ℚ};
 ghost use Rattle.std.specs.List.{flat_map, list_all};
-ghost use Rattle.script_hints.specs.Needs.{HasNormalBound, HasNormalBounds};
+ghost use Rattle.fx_model.specs.Fraction.{is_zero_ℚ};
 ghost use Rattle.exact_fractions.specs.Exact.{GivesTest};
+ghost use Rattle.script_hints.specs.Needs.{HasNormalBound, HasNormalBounds};
 ghost use Rattle.point_values.specs.Known.{fraction_of, values_of};
 ghost use Rattle.point_values.specs.Numbers.{constraint_numbers, hint_numbers};
 ghost use Rattle.point_values.specs.Truth as spec;

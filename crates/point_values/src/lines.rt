@@ -4,9 +4,9 @@ ghost use Rattle.std.specs.Prelude.{◌≡◌, ◌&&◌, ◌++◌, ◌+◌, ◌<
 ghost use Rattle.std.specs.Prelude.{None, Some, true, false, codes, [], if◌then◌else◌};
 ghost use Rattle.std.specs.Fmt.{decimal};
 ghost use Rattle.std.specs.List.{list_all};
+ghost use Rattle.exact_fractions.specs.Wide.{are_narrow};
 ghost use Rattle.script_claims.specs.Facts.{HasNormalBounds};
 ghost use Rattle.script_hints.specs.Needs.{HasNormalBounds as HasNormalHintBounds};
-ghost use Rattle.exact_fractions.specs.Wide.{are_narrow};
 ghost use Rattle.point_values.specs.Known.{values_of};
 ghost use Rattle.point_values.specs.Numbers.{claim_numbers, marked_numbers, wide_from};
 ghost use Rattle.point_values.specs.Truth as truth;

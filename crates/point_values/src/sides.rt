@@ -1,11 +1,10 @@
 //! On which side of a written bound a value stands.
 
 ghost use Rattle.std.specs.Prelude.{◌≡◌, ◌++◌, Some};
-ghost use Rattle.literal_order.specs.Values.{IsWritten};
+ghost use Rattle.literal_order.specs.Values.{IsWritten, written_value};
+ghost use Rattle.literal_order.specs.declared.written.Written.{Written};
 ghost use Rattle.exact_fractions.specs.Exact.{value_of, GivesTest};
 ghost use Rattle.exact_fractions.specs.Wide.{comparison_numbers};
-ghost use Rattle.literal_order.specs.Values.{written_value};
-ghost use Rattle.literal_order.specs.declared.written.Written.{Written};
 ghost use Rattle.point_values.specs.Known.{fraction_of};
 ghost use Rattle.point_values.specs.Numbers.{side_numbers, bound_numbers};
 ghost use Rattle.point_values.specs.Truth as spec;

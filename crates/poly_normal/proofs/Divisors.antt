@@ -1,9 +1,9 @@
 -- The greatest common divisor, as it is defined and as it is found; powers that pass a limit.
-use Rattle.std.specs.Prelude.{◌≡◌, ◌≢◌, ℕ, ◌+◌, ◌-◌, ◌*◌, ◌/◌, ◌%◌, ◌^◌, ◌<◌, ◌≤◌, ◌==◌}
-use Rattle.std.specs.Prelude.{◌&&◌, Bool, true, false, if◌then◌else◌, refl}
+use Rattle.std.specs.Prelude.{◌≡◌, ◌≢◌, ℕ, ◌+◌, ◌-◌, ◌*◌, ◌/◌, ◌%◌, ◌^◌, ◌<◌, ◌≤◌, ◌==◌, ◌&&◌, Bool}
+use Rattle.std.specs.Prelude.{true, false, if◌then◌else◌, refl}
 use Rattle.std.specs.Int.{IsGcd, ◌∣◌}
 use Rattle.std.proofs.Common.{arith, sym, ap, ◌∙◌, zero, suc, subst}
-use Rattle.std.proofs.lemmas.Bool.{eq-eqb}
+use Rattle.std.proofs.lemmas.Bool.{eq-eqb, false≢true}
 use Rattle.std.proofs.lemmas.Nat.{div-add-mod'}
 use Rattle.std.proofs.lemmas.Nat.Gcd.{dvd-zero, dvd_trans, dvd_antisymm, le_of_dvd}
 use Rattle.std.proofs.lemmas.Nat.Gcd.{dvd_of_mod-eq-zero, mod-eq-zero_of_dvd, le_from_IsGcd}
@@ -11,7 +11,6 @@ use Rattle.std.proofs.Math.Nat.{dvd-mul_right, pow-suc, pow-zero, pow-le-pow_rig
 use Rattle.std.proofs.Math.Nat.{one-le-pow, div-le_self}
 use Rattle.poly_normal.specs.Form.{common_divisor_to}
 use Rattle.poly_normal.proofs.Quotients.{IsDivisor, divides_both, whole_quotient}
-use Rattle.std.proofs.lemmas.Bool.{false≢true}
 
 -- no common divisor up to n is greater than what is found up to n
 at_least : (n a b d : ℕ) → 0 < d → d ≤ n → a % d ≡ 0 → b % d ≡ 0 → d ≤ common_divisor_to n a b

@@ -1,12 +1,10 @@
 -- Laws of fractions that products and quotients of polynomials use.
 use Rattle.std.specs.Prelude.{◌≡◌, ℕ, ◌+◌}
 use Rattle.std.proofs.Common.{arith, sym, ap, ◌∙◌, zero, suc}
-use Rattle.expr_dag.specs.fx_model.Fraction.{Fraction, ◌+ℚ◌, ◌*ℚ◌, ◌/ℚ◌, inverse_ℚ, neg_ℚ}
-use Rattle.expr_dag.specs.fx_model.Fraction.{zero_ℚ, one_ℚ, add_comm, add_assoc, zero-add, add-neg}
-use Rattle.expr_dag.specs.fx_model.Fraction.{mul_comm, mul_assoc, one-mul}
-use Rattle.expr_dag.specs.fx_model.Fraction.{mul-inverse, div-mul}
-pub use Rattle.expr_dag.specs.fx_model.Fraction.{add-zero, mul-one, mul-zero, add-mul, mul-neg}
-pub use Rattle.expr_dag.specs.fx_model.Fraction.{left_swap, middle_products}
+use Rattle.fx_model.specs.Fraction.{Fraction, ◌+ℚ◌, ◌*ℚ◌, ◌/ℚ◌, inverse_ℚ, neg_ℚ, zero_ℚ, one_ℚ}
+use Rattle.fx_model.specs.Fraction.{add_comm, add_assoc, zero-add, add-neg, mul_comm, mul_assoc}
+use Rattle.fx_model.specs.Fraction.{one-mul, mul-inverse, div-mul, add-zero, mul-one, mul-zero}
+use Rattle.fx_model.specs.Fraction.{add-mul, left_swap, middle_products}
 
 -- x + (y + z) = y + (x + z)
 pub add_swap : (x y z : Fraction) → x +ℚ (y +ℚ z) ≡ y +ℚ (x +ℚ z)

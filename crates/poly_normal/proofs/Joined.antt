@@ -9,19 +9,18 @@ use Rattle.std.specs.Ordering.{ordering_reverse}
 use Rattle.std.specs.declared.cmp.Ordering.{Ordering}
 use Rattle.std.specs.declared.cmp.Ordering.TheVariants.{Less, Equal, Greater}
 use Rattle.std.proofs.Common.{arith, sym, ap, ◌∙◌, suc, subst}
-use Rattle.std.proofs.lemmas.Bool.{eqb-true}
+use Rattle.std.proofs.lemmas.Bool.{eqb-true, false≢true}
 use Rattle.std.proofs.lemmas.Cmp.{nat_list_cmp_total}
 use Rattle.std.proofs.lemmas.Int.{ints}
 use Rattle.std.proofs.lemmas.Map.Made.{length-from_keys, is_member-filter}
+use Rattle.std.specs.Bool.{Decides}
+use Rattle.std.proofs.Math.IntN.{+ℤ_idl, +ℤ_idr}
 use Rattle.poly_normal.specs.Polynomial.{Monomial, same_monomial, Term, Polynomial, coefficient_of}
 use Rattle.poly_normal.specs.Polynomial.{IsEqual, occurs, term_count}
-use Rattle.std.specs.Bool.{Decides}
 use Rattle.poly_normal.specs.Rows.{rows, IsBefore, IsRising}
 use Rattle.poly_normal.proofs.FlatRows.{rows_same}
 use Rattle.poly_normal.proofs.Values.{same_monomial-self, same_monomial-true}
 use Rattle.poly_normal.proofs.Merge.{order, same_from_order, before-weaker, turned}
-use Rattle.std.proofs.Math.IntN.{+ℤ_idl, +ℤ_idr}
-use Rattle.std.proofs.lemmas.Bool.{false≢true}
 
 -- ---- the test of monomials
 

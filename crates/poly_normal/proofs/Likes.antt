@@ -3,15 +3,15 @@ use Rattle.std.specs.Prelude.{◌≡◌, ℕ, ℤ, pos, neg_ℤ, ◌+ℤ◌, ◌
 use Rattle.std.specs.Prelude.{if◌then◌else◌, [], ◌∷◌, ◌++◌, length, refl}
 use Rattle.std.proofs.Common.{arith, sym, ap, ◌∙◌, zero, suc, subst}
 use Rattle.std.proofs.lemmas.Int.{ints}
-use Rattle.expr_dag.specs.fx_model.Fraction.{Fraction, ◌+ℚ◌, ◌*ℚ◌, zero_ℚ, add_assoc}
-use Rattle.expr_dag.specs.fx_model.Fraction.{zero-add, zero-mul}
-use Rattle.expr_dag.specs.fx_model.Powers.{whole, whole-add, zero-whole}
+use Rattle.std.proofs.Math.IntN.{+ℤ_idl, +ℤ_assoc}
+use Rattle.fx_model.specs.Fraction.{Fraction, ◌+ℚ◌, ◌*ℚ◌, zero_ℚ, add_assoc, zero-add, zero-mul}
+use Rattle.fx_model.specs.Fraction.{add-mul}
+use Rattle.fx_model.specs.Powers.{whole, whole-add, zero-whole}
 use Rattle.poly_normal.specs.Polynomial.{Monomial, same_monomial, Polynomial, coefficient_of}
 use Rattle.poly_normal.specs.Polynomial.{IsEqual, negation}
-use Rattle.poly_normal.proofs.Fractions.{add-mul, add_swap, same_from_difference}
+use Rattle.poly_normal.proofs.Fractions.{add_swap, same_from_difference}
 use Rattle.poly_normal.proofs.Values.{same_monomial-self, same_monomial-true, monomial_value}
 use Rattle.poly_normal.proofs.Values.{term_value, polynomial_value, value-append, value-negation}
-use Rattle.std.proofs.Math.IntN.{+ℤ_idl, +ℤ_assoc}
 
 -- the terms that aren't like m
 abbrev pub without : Monomial → Polynomial → Polynomial

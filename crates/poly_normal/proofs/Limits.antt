@@ -1,14 +1,14 @@
 -- Joined polynomials with their weights and degrees: sums, negations, products, whole numbers and
 -- atoms; the limits.
-use Rattle.std.specs.Prelude.{◌≡◌, ℕ, ℤ, pos, negsuc, neg_ℤ, ◌+ℤ◌, ◌+◌, ◌*◌, ◌≤◌, ◌<◌}
-use Rattle.std.specs.Prelude.{max, unsigned_abs, Option, Some, None, [], ◌∷◌, ◌++◌}
-use Rattle.std.specs.Prelude.{length, replicate, slice_set, refl}
+use Rattle.std.specs.Prelude.{◌≡◌, ℕ, ℤ, pos, negsuc, neg_ℤ, ◌+ℤ◌, ◌+◌, ◌*◌, ◌≤◌, ◌<◌, max}
+use Rattle.std.specs.Prelude.{unsigned_abs, Option, Some, None, [], ◌∷◌, ◌++◌, length, replicate}
+use Rattle.std.specs.Prelude.{slice_set, refl}
 use Rattle.std.specs.List.{AllByRecursion}
 use Rattle.std.proofs.Common.{arith, sym, ap, ◌∙◌, zero, suc, subst, inr}
 use Rattle.std.proofs.lemmas.Int.{ints}
 use Rattle.std.proofs.Math.Nat.{mul-le-mul}
-use Rattle.poly_normal.specs.Polynomial.{Monomial, Polynomial, coefficient_of, IsEqual}
-use Rattle.poly_normal.specs.Polynomial.{negation, product}
+use Rattle.poly_normal.specs.Polynomial.{Monomial, Polynomial, coefficient_of, IsEqual, negation}
+use Rattle.poly_normal.specs.Polynomial.{product}
 use Rattle.poly_normal.specs.Rows.{with_term, IsBefore, IsRising, size_of, IsRow, AllRows, IsJoined}
 use Rattle.poly_normal.specs.Rows.{IsSumOf, IsProductOf}
 use Rattle.poly_normal.specs.Form.{Side}

@@ -1,20 +1,19 @@
 -- Marks on the subexpressions of some expressions: from the last node down, the operands of marked
 -- nodes get marked.
-use Rattle.std.specs.Prelude.{◌≡◌, ◌⊎◌, ℕ, ◌≤◌, ◌<◌, Bool, true, false, List}
-use Rattle.std.specs.Prelude.{slice_index_or, slice_get, Some, ◌+◌, length, refl}
+use Rattle.std.specs.Prelude.{◌≡◌, ◌⊎◌, ℕ, ◌≤◌, ◌<◌, Bool, true, false, List, slice_index_or}
+use Rattle.std.specs.Prelude.{slice_get, Some, ◌+◌, length, refl}
 use Rattle.std.proofs.Common.{arith, sym, ap, ◌∙◌, suc, subst, inl, inr}
 use Rattle.std.proofs.lemmas.List.{get_or_default}
 use Rattle.std.proofs.Math.Nat.{eq-or-lt_of_le}
-use Rattle.expr_dag.specs.fx_model.Expression.{IsOrdered, ChildrenBelow}
-use Rattle.expr_dag.specs.fx_model.declared.ExprId.{ExprId}
-use Rattle.expr_dag.specs.fx_model.declared.Node.{Node}
-use Rattle.expr_dag.specs.fx_model.declared.Node.TheVariants.{Var, Lit, Neg, Add, Sub, Mul, Div}
-use Rattle.expr_dag.specs.fx_model.declared.Node.TheVariants.{Abs, Round}
+use Rattle.std.proofs.lemmas.Bool.{false≢true, cases_lt}
+use Rattle.std.proofs.lemmas.Option.{slice_get_within}
+use Rattle.fx_model.specs.Expression.{IsOrdered, ChildrenBelow}
+use Rattle.fx_model.specs.declared.ExprId.{ExprId}
+use Rattle.fx_model.specs.declared.Node.{Node}
+use Rattle.fx_model.specs.declared.Node.TheVariants.{Var, Lit, Neg, Add, Sub, Mul, Div, Abs, Round}
 use Rattle.poly_normal.specs.Mark.{IsOperand, IsPart}
 use Rattle.poly_normal.specs.Mark.IsPart.{itself, operand}
 use Rattle.poly_normal.specs.Parts.{marked, AreParts, IsMarking, IsSide, IsPartOfSide}
-use Rattle.std.proofs.lemmas.Bool.{false≢true, cases_lt}
-use Rattle.std.proofs.lemmas.Option.{slice_get_within}
 
 abbrev at_node : List Node → ℕ → Node
 at_node nodes i = slice_index_or nodes i (Var 0)

@@ -4,21 +4,19 @@ use Rattle.std.specs.Prelude.{if◌then◌else◌, ◌<◌, [], ◌∷◌, ◌++
 use Rattle.std.specs.Prelude.{unsigned_abs, refl}
 use Rattle.std.specs.List.{AllByRecursion}
 use Rattle.std.specs.Cmp.Lexicographic.{slice_cmp}
-use Rattle.std.specs.Ordering.{nat_cmp, ordering_reverse}
+use Rattle.std.specs.Ordering.{nat_cmp, ordering_reverse, is_eq}
 use Rattle.std.specs.declared.cmp.Ordering.{Ordering}
 use Rattle.std.specs.declared.cmp.Ordering.TheVariants.{Less, Equal, Greater}
-use Rattle.std.proofs.Common.{arith, sym, ap, ◌∙◌, zero, suc, subst}
-use Rattle.std.proofs.Common.{append_assoc, drop-cons, inl, inr}
+use Rattle.std.proofs.Common.{arith, sym, ap, ◌∙◌, zero, suc, subst, append_assoc, drop-cons, inl}
+use Rattle.std.proofs.Common.{inr}
 use Rattle.std.proofs.lemmas.List.{drop_all, append-nil}
 use Rattle.std.proofs.lemmas.Cmp.{nat_list_cmp_total}
 use Rattle.std.proofs.lemmas.Int.{ints}
 use Rattle.std.proofs.lemmas.Map.Text.{is_eq-slice_cmp}
 use Rattle.std.proofs.lemmas.Slice.Eq.{bytes_eq-Decides}
-use Rattle.std.specs.Ordering.{is_eq}
-use Rattle.poly_normal.specs.Polynomial.{Monomial, same_monomial, Term, Polynomial, coefficient_of}
-use Rattle.poly_normal.specs.Rows.{with_term, IsBefore, IsRising, size_of, no_term, IsRow}
-use Rattle.poly_normal.specs.Rows.{IsSumOf}
 use Rattle.std.proofs.Math.IntN.{+ℤ_idl, +ℤ_idr}
+use Rattle.poly_normal.specs.Polynomial.{Monomial, same_monomial, Term, Polynomial, coefficient_of}
+use Rattle.poly_normal.specs.Rows.{with_term, IsBefore, IsRising, size_of, no_term, IsRow, IsSumOf}
 
 abbrev pub order : Monomial → Monomial → Ordering
 order l m = slice_cmp nat_cmp l m

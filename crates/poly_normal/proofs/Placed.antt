@@ -1,13 +1,11 @@
 -- Sides over rows against the sides that they stand for.
-use Rattle.std.specs.Prelude.{◌≡◌, ◌↔◌, ℕ, pos, ◌+◌, ◌*◌, ◌≤◌, ◌<◌, ◌^◌, max, Bool, true}
-use Rattle.std.specs.Prelude.{false, Option, Some, None, List, [], ◌∷◌, take}
-use Rattle.std.specs.Prelude.{slice_index_or, refl}
+use Rattle.std.specs.Prelude.{◌≡◌, ◌↔◌, ℕ, pos, ◌+◌, ◌*◌, ◌≤◌, ◌<◌, ◌^◌, max, Bool, true, false}
+use Rattle.std.specs.Prelude.{Option, Some, None, List, [], ◌∷◌, take, slice_index_or, refl}
 use Rattle.std.proofs.Common.{sym, ap, ◌∙◌, subst, inl, inr}
 use Rattle.poly_normal.specs.Polynomial.{coefficient_of}
 use Rattle.poly_normal.specs.Form.{Side, constant, atom, sum, negation, difference, product}
 use Rattle.poly_normal.specs.Mark.{IsTooLarge}
-use Rattle.poly_normal.specs.Places.{trues, spread, spread_polynomial, spread_side}
-use Rattle.poly_normal.specs.Places.{unit_row}
+use Rattle.poly_normal.specs.Places.{trues, spread, spread_polynomial, spread_side, unit_row}
 use Rattle.poly_normal.specs.Limited.{IsLike, IsLimited, side_of, constant_side, atom_side}
 use Rattle.poly_normal.specs.declared.limited.Limited.{Limited}
 use Rattle.poly_normal.proofs.Weights.{renamed-equal, sum-equal, negation-equal, product-equal}

@@ -1,4 +1,5 @@
 -- A product, row by row and half by half.
+use mir.Syntax.{w128}
 use Rattle.std.specs.Prelude.{◌≡◌, ◌≢◌, ℕ, ℤ, pos, negsuc, neg_ℤ, ◌+ℤ◌, ◌*ℤ◌, ◌+◌, ◌-◌, ◌*◌, ◌≤◌}
 use Rattle.std.specs.Prelude.{◌<◌, [], ◌∷◌, ◌++◌, map, take, drop, length, slice_index_or}
 use Rattle.std.specs.Prelude.{slice_range, FitsSigned, ◌^◌, unsigned_abs, refl}
@@ -10,7 +11,6 @@ use Rattle.std.specs.declared.cmp.Ordering.TheVariants.{Less, Equal, Greater}
 use Rattle.std.proofs.Common.{arith, sym, ap, ◌∙◌, zero, suc, subst, append_assoc, drop-cons}
 use Rattle.std.proofs.lemmas.List.{append-nil, drop-drop, take-append-drop}
 use Rattle.std.proofs.Math.Seq.{take-add}
-use mir.Syntax.{w128}
 use Rattle.std.proofs.lemmas.Int.{unsigned_abs-mul, fits_signed_from_abs}
 use Rattle.std.proofs.Math.Nat.{mul-pos, mul-le-mul_right, mul-le-mul}
 use Rattle.poly_normal.specs.Polynomial.{Monomial, monomial_product, Term, Polynomial}

@@ -1,5 +1,6 @@
 -- Where an expression has a value, it is the quotient of the values of its two polynomials, and the
 -- lower one isn't zero.
+use borrow.Author.Differences.{up, down}
 use Rattle.std.specs.Prelude.{◌≡◌, ℕ, ℤ, pos, negsuc, ◌+ℤ◌, ◌≤ℤ◌, ◌+◌, ◌*◌, ◌^◌, ◌/◌, ◌%◌, ◌<◌, ◌≤◌}
 use Rattle.std.specs.Prelude.{◌==◌, ◌&&◌, Bool, true, false, if◌then◌else◌, Option, Some, None}
 use Rattle.std.specs.Prelude.{List, slice_index_or, length, unwrap_or, refl}
@@ -8,34 +9,29 @@ use Rattle.std.proofs.lemmas.Bool.{eqb-true}
 use Rattle.std.proofs.lemmas.Int.{ints}
 use Rattle.std.proofs.lemmas.Nat.{div-add-mod'}
 use Rattle.std.proofs.Math.Nat.{mul-pos}
-use borrow.Author.Differences.{up, down}
-use Rattle.expr_dag.specs.fx_model.Fraction.{Fraction, ◌+ℚ◌, ◌-ℚ◌, ◌*ℚ◌, ◌/ℚ◌, inverse_ℚ, neg_ℚ}
-use Rattle.expr_dag.specs.fx_model.Fraction.{zero_ℚ, is_zero_ℚ, is_zero_not, ◌≤ℚ◌}
-use Rattle.expr_dag.specs.fx_model.Fraction.{le_refl, mul_comm, mul_assoc, neg-mul}
-use Rattle.expr_dag.specs.fx_model.Fraction.{mul-inverse}
-use Rattle.expr_dag.specs.fx_model.Powers.{whole, two_to, whole-mul, whole-le_out, zero-whole}
-use Rattle.expr_dag.specs.fx_model.Powers.{one-whole, two_to-add, two_to-pos}
-use Rattle.expr_dag.specs.fx_model.Expression.{Assignment, ten_to, literal_value, lift₁, lift₂}
-use Rattle.expr_dag.specs.fx_model.Expression.{quotient, node_value, value, value_step}
-use Rattle.expr_dag.specs.fx_model.Expression.{ChildrenBelow, IsOrdered}
-use Rattle.expr_dag.specs.fx_model.declared.Literal.{Literal}
-use Rattle.expr_dag.specs.fx_model.declared.ExprId.{ExprId}
-use Rattle.expr_dag.specs.fx_model.declared.Node.{Node}
-use Rattle.expr_dag.specs.fx_model.declared.Node.TheVariants.{Var, Lit, Neg, Add, Sub, Mul, Div}
-use Rattle.expr_dag.specs.fx_model.declared.Node.TheVariants.{Abs, Round}
+use Rattle.fx_model.specs.Fraction.{Fraction, ◌+ℚ◌, ◌-ℚ◌, ◌*ℚ◌, ◌/ℚ◌, inverse_ℚ, neg_ℚ, zero_ℚ}
+use Rattle.fx_model.specs.Fraction.{is_zero_ℚ, is_zero_not, ◌≤ℚ◌, le_refl, mul_comm, mul_assoc}
+use Rattle.fx_model.specs.Fraction.{neg-mul, mul-inverse, mul-one, middle_products}
+use Rattle.fx_model.specs.Powers.{whole, two_to, whole-mul, whole-le_out, zero-whole, one-whole}
+use Rattle.fx_model.specs.Powers.{two_to-add, two_to-pos}
+use Rattle.fx_model.specs.Expression.{Assignment, ten_to, literal_value, lift₁, lift₂, quotient}
+use Rattle.fx_model.specs.Expression.{node_value, value, value_step, ChildrenBelow, IsOrdered}
+use Rattle.fx_model.specs.declared.Literal.{Literal}
+use Rattle.fx_model.specs.declared.ExprId.{ExprId}
+use Rattle.fx_model.specs.declared.Node.{Node}
+use Rattle.fx_model.specs.declared.Node.TheVariants.{Var, Lit, Neg, Add, Sub, Mul, Div, Abs, Round}
+use Rattle.literal.specs.Tens.{pow_positive}
 use Rattle.poly_normal.specs.Polynomial as polynomial
 use Rattle.poly_normal.specs.Form.{Form, atom_form, literal_form, literal_top, literal_bottom}
 use Rattle.poly_normal.specs.Form.{literal_divisor, common_divisor_to, negation_form, sum_form}
 use Rattle.poly_normal.specs.Form.{difference_form, product_form, quotient_form, node_form, form}
 use Rattle.poly_normal.specs.Mark.{AreEqual, HaveEqualValues}
-use Rattle.poly_normal.proofs.Fractions.{mul-one, middle_products}
 use Rattle.poly_normal.proofs.Fractions.{product_not_zero, cancel, sum_over, product_over}
 use Rattle.poly_normal.proofs.Fractions.{quotient_over, same_from_cross}
 use Rattle.poly_normal.proofs.Values.{polynomial_value, value-atom, value-constant, value-append}
 use Rattle.poly_normal.proofs.Values.{value-negation, value-product}
 use Rattle.poly_normal.proofs.Likes.{value-equal}
 use Rattle.poly_normal.proofs.Steps.{form_step}
-use Rattle.expr_dag.specs.literal.Tens.{pow_positive}
 
 -- r is the quotient of the values of the two polynomials
 pub record IsQuotient (v : ℕ → Fraction) (r : Fraction) (f : Form) : Type 0 where

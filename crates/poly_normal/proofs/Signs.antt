@@ -1,11 +1,11 @@
 -- Literals as fractions, by the sign of their exponents.
-use Rattle.std.specs.Prelude.{◌≡◌, ◌≢◌, ℕ, ℤ, pos, negsuc, ◌≤ℤ◌, ◌<ℤ◌, ◌*◌, ◌/◌, ◌%◌, ◌^◌}
-use Rattle.std.specs.Prelude.{◌<◌, ◌≤◌, unsigned_abs, Option, Some, None, refl}
+use borrow.Author.Differences.{up, down}
+use Rattle.std.specs.Prelude.{◌≡◌, ◌≢◌, ℕ, ℤ, pos, negsuc, ◌≤ℤ◌, ◌<ℤ◌, ◌*◌, ◌/◌, ◌%◌, ◌^◌, ◌<◌, ◌≤◌}
+use Rattle.std.specs.Prelude.{unsigned_abs, Option, Some, None, refl}
 use Rattle.std.proofs.Common.{arith, sym, ap, ◌∙◌, subst, inl, inr, lit<}
 use Rattle.std.proofs.lemmas.Int.{ints}
 use Rattle.std.proofs.Math.Nat.{pow-le-pow_right, div-one, one-le-pow, mul-le-mul_left}
-use borrow.Author.Differences.{up, down}
-use Rattle.expr_dag.specs.fx_model.declared.Literal.{Literal}
+use Rattle.fx_model.specs.declared.Literal.{Literal}
 use Rattle.poly_normal.specs.Form.{common_divisor_to, literal_top, literal_bottom}
 use Rattle.poly_normal.specs.Ratio.{IsPlain, IsRatio, reduced_top, reduced_bottom}
 use Rattle.poly_normal.specs.declared.literals.Ratio.{Ratio}

@@ -1,23 +1,20 @@
 -- Spreading rows keeps products and the order, so it forgets nothing.
-use Rattle.std.specs.Prelude.{◌≡◌, ◌↔◌, ℕ, ℤ, neg_ℤ, ◌*ℤ◌, ◌+◌, ◌<◌, Bool, true}
-use Rattle.std.specs.Prelude.{false, List, [], ◌∷◌, ◌++◌, map, length}
-use Rattle.std.specs.Prelude.{slice_index_or, take, refl}
+use Rattle.std.specs.Prelude.{◌≡◌, ◌↔◌, ℕ, ℤ, neg_ℤ, ◌*ℤ◌, ◌+◌, ◌<◌, Bool, true, false, List, []}
+use Rattle.std.specs.Prelude.{◌∷◌, ◌++◌, map, length, slice_index_or, take, refl}
 use Rattle.std.specs.List.{AllByRecursion}
 use Rattle.std.specs.Ordering.{ordering_then}
 use Rattle.std.specs.Cmp.{nat_cmp_is}
 use Rattle.std.proofs.lemmas.Bool.{cases_order}
-use Rattle.poly_normal.specs.Rows.{no_term}
 use Rattle.std.specs.declared.cmp.Ordering.{Ordering}
 use Rattle.std.specs.declared.cmp.Ordering.TheVariants.{Less, Equal, Greater}
 use Rattle.std.proofs.Common.{arith, sym, ap, ◌∙◌, zero, suc, subst, inl, inr}
+use Rattle.poly_normal.specs.Rows.{no_term, with_term, IsBefore, IsRising}
 use Rattle.poly_normal.specs.Polynomial.{Monomial, atom_monomial, monomial_product, Term}
 use Rattle.poly_normal.specs.Polynomial.{Polynomial, coefficient_of, IsEqual, negation}
 use Rattle.poly_normal.specs.Polynomial.{term_product, product, term_count}
-use Rattle.poly_normal.specs.Rows.{with_term, IsBefore, IsRising}
 use Rattle.poly_normal.specs.Places.{trues, with_power, spread, spread_polynomial, zero_row}
 use Rattle.poly_normal.specs.Places.{unit_row}
-use Rattle.poly_normal.proofs.Merge.{order, same_from_order, turned, all-merge}
-use Rattle.poly_normal.proofs.Merge.{with_term-all}
+use Rattle.poly_normal.proofs.Merge.{order, same_from_order, turned, all-merge, with_term-all}
 use Rattle.poly_normal.proofs.Joined.{term_count-rising, same_from_equal, same_term}
 use Rattle.poly_normal.proofs.Joined.{not_before_itself}
 use Rattle.poly_normal.proofs.Products.{length-product}

@@ -4,11 +4,10 @@ use Rattle.std.proofs.Common.{arith, sym, ap, ◌∙◌, zero, suc, subst, lengt
 use Rattle.std.proofs.lemmas.List.{get_or_append_left}
 use Rattle.std.proofs.Math.Seq.{get_or-append_seam}
 use Rattle.std.proofs.Math.Nat.{zero-add}
-use Rattle.expr_dag.specs.fx_model.Expression.{ChildrenBelow, IsOrdered}
-use Rattle.expr_dag.specs.fx_model.declared.ExprId.{ExprId}
-use Rattle.expr_dag.specs.fx_model.declared.Node.{Node}
-use Rattle.expr_dag.specs.fx_model.declared.Node.TheVariants.{Var, Lit, Neg, Add, Sub, Mul, Div}
-use Rattle.expr_dag.specs.fx_model.declared.Node.TheVariants.{Abs, Round}
+use Rattle.fx_model.specs.Expression.{ChildrenBelow, IsOrdered}
+use Rattle.fx_model.specs.declared.ExprId.{ExprId}
+use Rattle.fx_model.specs.declared.Node.{Node}
+use Rattle.fx_model.specs.declared.Node.TheVariants.{Var, Lit, Neg, Add, Sub, Mul, Div, Abs, Round}
 use Rattle.poly_normal.specs.Form.{Form, atom_form, negation_form, sum_form, difference_form}
 use Rattle.poly_normal.specs.Form.{product_form, quotient_form, node_form, forms_after, form}
 

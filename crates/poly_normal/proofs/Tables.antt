@@ -1,11 +1,18 @@
 -- The table of forms, entry by entry, and what it comes to at the end.
-use Rattle.std.specs.Prelude.{◌≡◌, ◌⊎◌, ◌&&◌, ℕ, ◌+◌, ◌<◌, Bool, true, false, Option}
-use Rattle.std.specs.Prelude.{Some, None, List, [], ◌∷◌, ◌++◌, take, length, slice_index_or, refl}
-use Rattle.std.proofs.Common.{arith, sym, ap, ◌∙◌, subst, inl, inr}
-use Rattle.expr_dag.specs.fx_model.Expression.{IsOrdered, ChildrenBelow}
-use Rattle.expr_dag.specs.fx_model.declared.ExprId.{ExprId}
-use Rattle.expr_dag.specs.fx_model.declared.Node.{Node}
-use Rattle.expr_dag.specs.fx_model.declared.Node.TheVariants.{Var}
+use Rattle.std.specs.Prelude.{◌≡◌, ◌⊎◌, ◌&&◌, ℕ, ◌+◌, ◌<◌, Bool, true, false, Option, Some, None}
+use Rattle.std.specs.Prelude.{List, [], ◌∷◌, ◌++◌, take, length, slice_index_or, refl, is_some}
+use Rattle.std.specs.Prelude.{IfOk, Result, Ok}
+use Rattle.std.proofs.Common.{arith, sym, ap, ◌∙◌, subst, inl, inr, length-append, true≢false}
+use Rattle.std.proofs.lemmas.List.{get_or_append_left, get_or_default}
+use Rattle.std.proofs.Math.Seq.{get_or-append_seam}
+use Rattle.std.proofs.lemmas.Bool.{cases_lt, false≢true}
+use Rattle.std.proofs.Math.ListN.{get_or-eq_default}
+use Rattle.std.specs.declared.alloc.AllocError.{AllocError}
+use Rattle.std.proofs.lemmas.Result.{IfOk-weaker}
+use Rattle.fx_model.specs.Expression.{IsOrdered, ChildrenBelow}
+use Rattle.fx_model.specs.declared.ExprId.{ExprId}
+use Rattle.fx_model.specs.declared.Node.{Node}
+use Rattle.fx_model.specs.declared.Node.TheVariants.{Var}
 use Rattle.poly_normal.specs.Form.{Side, Form, form, product}
 use Rattle.poly_normal.specs.Mark.{IsOperand, IsPart, IsTooLarge, HasTooLarge, PassesLimit}
 use Rattle.poly_normal.specs.Mark.{AreEqual, Answers, left_product, right_product}
@@ -20,14 +27,6 @@ use Rattle.poly_normal.specs.Table.{AreThere, IsMissing, IsNext, AreCompared}
 use Rattle.poly_normal.specs.declared.forms.Quotient.{Quotient}
 use Rattle.poly_normal.specs.declared.sameness.Sameness.{Sameness}
 use Rattle.poly_normal.specs.declared.sameness.Sameness.TheVariants.{Same, Differs, TooLarge}
-use Rattle.std.proofs.lemmas.List.{get_or_append_left}
-use Rattle.std.proofs.Math.Seq.{get_or-append_seam}
-use Rattle.std.proofs.lemmas.Bool.{cases_lt}
-use Rattle.std.specs.Prelude.{is_some, IfOk, Result, Ok}
-use Rattle.std.proofs.Common.{length-append}
-use Rattle.std.proofs.lemmas.List.{get_or_default}
-use Rattle.std.proofs.Math.ListN.{get_or-eq_default}
-use Rattle.std.specs.declared.alloc.AllocError.{AllocError}
 use Rattle.poly_normal.specs.Polynomial.{IsEqual}
 use Rattle.poly_normal.specs.TermsOf.{polynomial_of}
 use Rattle.poly_normal.specs.declared.limited.Limited.{Limited}
@@ -39,9 +38,6 @@ use Rattle.poly_normal.proofs.NodeForms.{placed_small, limited_width, limited_sm
 use Rattle.poly_normal.proofs.Trues.{place_at, place_more, place_below}
 use Rattle.poly_normal.proofs.Weights.{renamed-equal}
 use Rattle.poly_normal.proofs.Spread.{spread_back}
-use Rattle.std.proofs.lemmas.Bool.{false≢true}
-use Rattle.std.proofs.Common.{true≢false}
-use Rattle.std.proofs.lemmas.Result.{IfOk-weaker}
 
 -- ---- arms of one node
 pub binary_form : (w : ℕ) (o p r : Option Quotient) (f g : Quotient) (F : Form → Form → Form)

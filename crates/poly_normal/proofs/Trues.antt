@@ -1,10 +1,10 @@
 -- How many marked atoms come before a node.
-use Rattle.std.specs.Prelude.{◌≡◌, ◌&&◌, ℕ, ◌+◌, ◌<◌, ◌≤◌, Bool, true, false, List}
-use Rattle.std.specs.Prelude.{[], ◌∷◌, take, length, slice_index_or, refl}
+use Rattle.std.specs.Prelude.{◌≡◌, ◌&&◌, ℕ, ◌+◌, ◌<◌, ◌≤◌, Bool, true, false, List, [], ◌∷◌, take}
+use Rattle.std.specs.Prelude.{length, slice_index_or, refl}
 use Rattle.std.proofs.Common.{arith, sym, ap, ◌∙◌, zero, suc}
 use Rattle.std.proofs.lemmas.Bool.{and_from}
-use Rattle.expr_dag.specs.fx_model.declared.Node.{Node}
-use Rattle.expr_dag.specs.fx_model.declared.Node.TheVariants.{Var}
+use Rattle.fx_model.specs.declared.Node.{Node}
+use Rattle.fx_model.specs.declared.Node.TheVariants.{Var}
 use Rattle.poly_normal.specs.Parts.{is_atom_node}
 use Rattle.poly_normal.specs.Places.{places, trues, count_of}
 

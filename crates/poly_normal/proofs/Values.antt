@@ -1,17 +1,15 @@
 -- The value of a polynomial at fractions for its atoms depends on its coefficients alone.
-use Rattle.std.specs.Prelude.{◌≡◌, ℕ, ℤ, pos, ◌+◌, Bool, true, false}
-use Rattle.std.specs.Prelude.{◌==◌, ◌&&◌, [], ◌∷◌, ◌++◌, map, replicate, refl}
+use Rattle.std.specs.Prelude.{◌≡◌, ℕ, ℤ, pos, ◌+◌, Bool, true, false, ◌==◌, ◌&&◌, [], ◌∷◌, ◌++◌}
+use Rattle.std.specs.Prelude.{map, replicate, refl}
 use Rattle.std.proofs.Common.{arith, sym, ap, ◌∙◌, zero, suc}
 use Rattle.std.proofs.lemmas.Bool.{eqb-true, eq-eqb}
-use Rattle.expr_dag.specs.fx_model.Fraction.{Fraction, ◌+ℚ◌, ◌*ℚ◌, neg_ℚ, zero_ℚ, one_ℚ}
-use Rattle.expr_dag.specs.fx_model.Fraction.{add_assoc, zero-add, one-mul, zero-mul}
-use Rattle.expr_dag.specs.fx_model.Fraction.{mul-add, neg-mul, neg-add}
-use Rattle.expr_dag.specs.fx_model.Powers.{whole, whole-mul, whole-neg, zero-whole}
-use Rattle.expr_dag.specs.fx_model.Powers.{one-whole}
+use Rattle.fx_model.specs.Fraction.{Fraction, ◌+ℚ◌, ◌*ℚ◌, neg_ℚ, zero_ℚ, one_ℚ, add_assoc, zero-add}
+use Rattle.fx_model.specs.Fraction.{one-mul, zero-mul, mul-add, neg-mul, neg-add, add-zero, mul-one}
+use Rattle.fx_model.specs.Fraction.{mul-zero, add-mul, middle_products}
+use Rattle.fx_model.specs.Powers.{whole, whole-mul, whole-neg, zero-whole, one-whole}
 use Rattle.poly_normal.specs.Polynomial.{Monomial, atom_monomial, monomial_product, same_monomial}
-use Rattle.poly_normal.specs.Polynomial.{Term, Polynomial, negation}
-use Rattle.poly_normal.specs.Polynomial.{term_product, product, atom, constant}
-use Rattle.poly_normal.proofs.Fractions.{add-zero, mul-one, mul-zero, add-mul, middle_products}
+use Rattle.poly_normal.specs.Polynomial.{Term, Polynomial, negation, term_product, product, atom}
+use Rattle.poly_normal.specs.Polynomial.{constant}
 use Rattle.poly_normal.proofs.Fractions.{power, power-add}
 
 -- ---- equal monomials

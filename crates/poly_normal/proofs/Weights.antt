@@ -1,11 +1,11 @@
 -- What depends on the coefficients alone: sums of weights of monomials, products, renamed
 -- monomials, the number of terms.
+use borrow.Author.Differences.{up, down, sum_is_lem, product_is, neg_is}
 use Rattle.std.specs.Prelude.{◌≡◌, ℕ, ℤ, pos, neg_ℤ, ◌+ℤ◌, ◌*ℤ◌, ◌+◌, ◌*◌, ◌≤◌, Bool, true, false}
 use Rattle.std.specs.Prelude.{if◌then◌else◌, [], ◌∷◌, ◌++◌, map, length, refl}
 use Rattle.std.proofs.Common.{arith, sym, ap, ◌∙◌, zero, suc, subst}
 use Rattle.std.proofs.lemmas.Int.{ints}
 use Rattle.std.proofs.Math.IntN.{*ℤ_comm, +ℤ_assoc, +ℤ_idl, +ℤ_idr}
-use borrow.Author.Differences.{up, down, sum_is_lem, product_is, neg_is}
 use Rattle.poly_normal.specs.Polynomial.{Monomial, monomial_product, same_monomial, Term}
 use Rattle.poly_normal.specs.Polynomial.{Polynomial, coefficient_of, IsEqual, negation}
 use Rattle.poly_normal.specs.Polynomial.{term_product, product, term_count}

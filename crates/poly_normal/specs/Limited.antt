@@ -1,6 +1,5 @@
 -- What the code's polynomials and quotients stand for, and when they are within the limits.
-use Rattle.std.specs.Prelude.{◌≡◌, ◌<◌, ℕ, pos, Option, Some, None, []}
-use Rattle.std.specs.Prelude.{◌∷◌, length}
+use Rattle.std.specs.Prelude.{◌≡◌, ◌<◌, ℕ, pos, Option, Some, None, [], ◌∷◌, length}
 use Rattle.poly_normal.specs.Polynomial.{IsEqual}
 use Rattle.poly_normal.specs.Form.{Side}
 use Rattle.poly_normal.specs.Mark.{IsTooLarge}

@@ -1,12 +1,10 @@
 -- When two expressions are the same rational function.
-use Rattle.std.specs.Prelude.{◌≡◌, ◌⊎◌, ◌<◌, ◌≤◌, ◌^◌, List, slice_index_or, length}
-use Rattle.std.specs.Prelude.{Some}
-use Rattle.expr_dag.specs.fx_model.Fraction.{Fraction}
-use Rattle.expr_dag.specs.fx_model.Expression.{Assignment, value, IsOrdered}
-use Rattle.expr_dag.specs.fx_model.declared.ExprId.{ExprId}
-use Rattle.expr_dag.specs.fx_model.declared.Node.{Node}
-use Rattle.expr_dag.specs.fx_model.declared.Node.TheVariants.{Var, Lit, Neg, Add, Sub, Mul, Div}
-use Rattle.expr_dag.specs.fx_model.declared.Node.TheVariants.{Abs, Round}
+use Rattle.std.specs.Prelude.{◌≡◌, ◌⊎◌, ◌<◌, ◌≤◌, ◌^◌, List, slice_index_or, length, Some}
+use Rattle.fx_model.specs.Fraction.{Fraction}
+use Rattle.fx_model.specs.Expression.{Assignment, value, IsOrdered}
+use Rattle.fx_model.specs.declared.ExprId.{ExprId}
+use Rattle.fx_model.specs.declared.Node.{Node}
+use Rattle.fx_model.specs.declared.Node.TheVariants.{Var, Lit, Neg, Add, Sub, Mul, Div, Abs, Round}
 use Rattle.poly_normal.specs.Polynomial.{IsEqual, term_count}
 use Rattle.poly_normal.specs.Form.{Side, Form, form, product}
 use Rattle.poly_normal.specs.declared.sameness.Sameness.{Sameness}

@@ -1,11 +1,10 @@
 -- Which nodes are subexpressions, as marks: one for each node.
-use Rattle.std.specs.Prelude.{◌≡◌, ◌⊎◌, ◌↔◌, Bool, true, false, List, slice_index_or}
-use Rattle.std.specs.Prelude.{length, replicate, refl, ℕ, Some, slice_get}
+use Rattle.std.specs.Prelude.{◌≡◌, ◌⊎◌, ◌↔◌, Bool, true, false, List, slice_index_or, length}
+use Rattle.std.specs.Prelude.{replicate, refl, ℕ, Some, slice_get}
 use Rattle.std.proofs.Common.{zero, suc}
-use Rattle.expr_dag.specs.fx_model.declared.ExprId.{ExprId}
-use Rattle.expr_dag.specs.fx_model.declared.Node.{Node}
-use Rattle.expr_dag.specs.fx_model.declared.Node.TheVariants.{Var, Lit, Neg, Add, Sub, Mul, Div}
-use Rattle.expr_dag.specs.fx_model.declared.Node.TheVariants.{Abs, Round}
+use Rattle.fx_model.specs.declared.ExprId.{ExprId}
+use Rattle.fx_model.specs.declared.Node.{Node}
+use Rattle.fx_model.specs.declared.Node.TheVariants.{Var, Lit, Neg, Add, Sub, Mul, Div, Abs, Round}
 use Rattle.poly_normal.specs.Mark.{IsPart}
 
 -- whether an expression is marked

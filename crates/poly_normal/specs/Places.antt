@@ -1,7 +1,7 @@
 -- Rows and monomials: a row has a power for each atom that occurs, a monomial one for each node.
-use Rattle.std.specs.Prelude.{ℕ, Bool, true, false, ◌&&◌, zero, suc, List}
-use Rattle.std.specs.Prelude.{[], ◌∷◌, map, replicate, slice_set}
-use Rattle.expr_dag.specs.fx_model.declared.Node.{Node}
+use Rattle.std.specs.Prelude.{ℕ, Bool, true, false, ◌&&◌, zero, suc, List, [], ◌∷◌, map, replicate}
+use Rattle.std.specs.Prelude.{slice_set}
+use Rattle.fx_model.specs.declared.Node.{Node}
 use Rattle.poly_normal.specs.Polynomial.{Monomial, Polynomial}
 use Rattle.poly_normal.specs.Form.{Side}
 use Rattle.poly_normal.specs.Parts.{is_atom_node}

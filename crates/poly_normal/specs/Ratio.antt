@@ -1,9 +1,9 @@
 -- Literals as reduced fractions.
 use Rattle.std.specs.Prelude.{◌≡◌, ◌≢◌, ◌⊎◌, ℕ, pos, negsuc, ◌≤ℤ◌, ◌/◌, ◌%◌, ◌^◌, ◌<◌, ◌≤◌, Option}
 use Rattle.std.specs.Prelude.{Some, None, List, slice_index_or, length, ⊤}
-use Rattle.expr_dag.specs.fx_model.declared.Literal.{Literal}
-use Rattle.expr_dag.specs.fx_model.declared.Node.{Node}
-use Rattle.expr_dag.specs.fx_model.declared.Node.TheVariants.{Lit}
+use Rattle.fx_model.specs.declared.Literal.{Literal}
+use Rattle.fx_model.specs.declared.Node.{Node}
+use Rattle.fx_model.specs.declared.Node.TheVariants.{Lit}
 use Rattle.poly_normal.specs.Form.{literal_top, literal_bottom, literal_divisor}
 use Rattle.poly_normal.specs.declared.literals.Ratio.{Ratio}
 

@@ -1,6 +1,6 @@
 -- Polynomials as two flat lists: coefficients, and for each of them a row of powers.
-use Rattle.std.specs.Prelude.{◌≡◌, ◌≢◌, ℕ, ℤ, pos, negsuc, zero, suc, ◌+ℤ◌, ◌+◌, ◌*◌, ◌≤◌}
-use Rattle.std.specs.Prelude.{List, [], ◌∷◌, take, drop, length, unsigned_abs, ⊤}
+use Rattle.std.specs.Prelude.{◌≡◌, ◌≢◌, ℕ, ℤ, pos, negsuc, zero, suc, ◌+ℤ◌, ◌+◌, ◌*◌, ◌≤◌, List, []}
+use Rattle.std.specs.Prelude.{◌∷◌, take, drop, length, unsigned_abs, ⊤}
 use Rattle.std.specs.List.{AllByRecursion}
 use Rattle.std.specs.Cmp.Lexicographic.{slice_cmp}
 use Rattle.std.specs.Ordering.{nat_cmp}

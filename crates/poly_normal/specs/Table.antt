@@ -1,9 +1,9 @@
 -- The table of forms: an entry for each marked node.
 use Rattle.std.specs.Prelude.{◌≡◌, ◌⊎◌, ℕ, ◌<◌, Bool, true, false, Option, Some, None, List}
 use Rattle.std.specs.Prelude.{slice_index_or, is_some, length}
-use Rattle.expr_dag.specs.fx_model.declared.ExprId.{ExprId}
-use Rattle.expr_dag.specs.fx_model.declared.Node.{Node}
-use Rattle.expr_dag.specs.fx_model.declared.Node.TheVariants.{Var}
+use Rattle.fx_model.specs.declared.ExprId.{ExprId}
+use Rattle.fx_model.specs.declared.Node.{Node}
+use Rattle.fx_model.specs.declared.Node.TheVariants.{Var}
 use Rattle.poly_normal.specs.Polynomial.{IsEqual}
 use Rattle.poly_normal.specs.Form.{Side, Form, form, product}
 use Rattle.poly_normal.specs.Mark.{IsOperand, IsPart, IsTooLarge, HasTooLarge}

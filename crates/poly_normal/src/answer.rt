@@ -1,6 +1,6 @@
-ghost use Rattle.std.specs.Prelude.{◌≡◌, ◌&&◌, ◌<◌, IfOk, MatchOption, length};
-ghost use Rattle.std.specs.Prelude.{slice_index_or, is_some, true, false, ℕ};
-ghost use Rattle.expr_dag.specs.fx_model.Expression.{ChildrenBelow, IsOrdered};
+ghost use Rattle.std.specs.Prelude.{◌≡◌, ◌&&◌, ◌<◌, IfOk, MatchOption, length, slice_index_or};
+ghost use Rattle.std.specs.Prelude.{is_some, true, false, ℕ};
+ghost use Rattle.fx_model.specs.Expression.{ChildrenBelow, IsOrdered};
 ghost use Rattle.poly_normal.specs.Form.{Side, product};
 ghost use Rattle.poly_normal.specs.Limited.{IsLike, side_of};
 ghost use Rattle.poly_normal.specs.Mark.{Answers, HaveEqualValues, IsOperand};
@@ -16,7 +16,7 @@ use crate::forms::Quotient;
 use crate::limited::Limited;
 use crate::sameness::Sameness;
 use crate::{arithmetic, forms, parts, sides};
-use expr_dag::{ExprId, Node};
+use fx_model::{ExprId, Node};
 use std::alloc::{AllocError, Global};
 
 /// The form in the table at x, or none where it has none.

@@ -13,7 +13,7 @@ ghost use Rattle.poly_normal.specs.Ratio.{IsPlain, reduced_bottom, reduced_top};
 
 use crate::limited::Limited;
 use crate::{literals, sides};
-use expr_dag::Literal;
+use fx_model::Literal;
 use std::alloc::{AllocError, Global};
 
 /// Numerator and denominator.

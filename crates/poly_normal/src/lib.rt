@@ -1,8 +1,6 @@
 //! Normal forms of expressions: whether two of them are equal as rational functions.
 #![tactic(auto)]
 
-// What callers name of the crates below.
-pub use expr_dag::Dag;
 
 mod answer;
 mod arithmetic;
@@ -17,7 +15,6 @@ mod sides;
 mod terms;
 
 pub use answer::same as same_of_nodes;
-pub use expr_dag::{ExprId, Literal, Node};
 pub use law::equal_forms_have_equal_values;
 pub use sameness::Sameness;
 pub use shared::{Forms, same};

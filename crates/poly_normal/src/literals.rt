@@ -4,7 +4,7 @@ ghost use Rattle.poly_normal.specs.Form.{common_divisor_to};
 ghost use Rattle.poly_normal.specs.Ratio.{IsBelowLimit, IsPlain, IsRatio, reduced_bottom};
 ghost use Rattle.poly_normal.specs.Ratio.{reduced_top};
 
-use expr_dag::Literal;
+use fx_model::Literal;
 
 const LIMIT: u128 = 1 << 127;
 

@@ -1,9 +1,9 @@
 ghost use Rattle.std.specs.Prelude.{◌≡◌, ◌<◌, length, vec_len, IfOk};
-ghost use Rattle.expr_dag.specs.fx_model.Expression.{IsOrdered, ChildrenBelow};
+ghost use Rattle.fx_model.specs.Expression.{IsOrdered, ChildrenBelow};
 ghost use Rattle.poly_normal.specs.Mark.{IsOperand};
 ghost use Rattle.poly_normal.specs.Parts.{AreParts, IsSide, is_atom_node, IsMarking};
 
-use expr_dag::{ExprId, Node};
+use fx_model::{ExprId, Node};
 use std::alloc::{AllocError, Global};
 
 /// Marks x.

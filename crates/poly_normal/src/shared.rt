@@ -1,13 +1,14 @@
 //! The comparison over a list of shared nodes.
 ghost use Rattle.std.specs.Prelude.{◌≡◌, ◌<◌, IfOk, length};
+ghost use Rattle.fx_model.specs.Expression.{IsOrdered};
 ghost use Rattle.poly_normal.specs.Mark.{Answers, HaveEqualValues};
-ghost use Rattle.expr_dag.specs.fx_model.Expression.{IsOrdered};
 ghost use Rattle.poly_normal.specs.Ratio.{ArePlain};
 
 use crate::forms::Quotient;
 use crate::sameness::Sameness;
 use crate::{answer, parts};
-use expr_dag::{Dag, ExprId, Node};
+use expr_dag::Dag;
+use fx_model::{ExprId, Node};
 use std::alloc::{AllocError, Global};
 
 /// Whether two expressions are equal as rational functions. Both are numbers of the list. Lack of

@@ -21,8 +21,8 @@ use Rattle.script_nodes.specs.Literals.{literal_of, LiteralsAreTold, SpelledOnce
 use Rattle.script_nodes.specs.Written.{bound_written}
 use Rattle.fixprog.specs.declared.format.Format.{Format}
 use Rattle.fixprog.specs.Formats.{least, greatest, word_value}
-use Rattle.program_truths.proofs.Trees.{word_bound}
 use Rattle.fixprog.specs.Narrow.{power_below}
+use Rattle.program_truths.proofs.Trees.{word_bound}
 
 -- ---- the spelling of `wbL`
 

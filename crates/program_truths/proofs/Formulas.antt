@@ -11,8 +11,9 @@ use Rattle.script_words.specs.Literals.{is_word}
 use Rattle.script_words.specs.Lex.{front}
 use Rattle.script_words.specs.Quiet.{IsQuiet, EndsBeforeQuiet}
 use Rattle.script_words.specs.Words.{Word, name, sign}
-use Rattle.script_shape.specs.Tree.{Bound, bound_words, between, Prop, lies_in, prop_words, Formula}
-use Rattle.script_shape.specs.Tree.{formula_words}
+use Rattle.script_shape.specs.Expressions.{Bound, bound_words}
+use Rattle.script_shape.specs.Propositions.{between, Prop, lies_in, prop_words, Formula}
+use Rattle.script_shape.specs.Propositions.{formula_words}
 use Rattle.fixprog.specs.declared.format.Format.{Format}
 use Rattle.fixprog.specs.declared.program.Mark.{Mark}
 use Rattle.fixprog.specs.declared.program.Mark.TheVariants as mark
@@ -22,7 +23,7 @@ use Rattle.fixprog.specs.Formats.{format_of, least, greatest}
 use Rattle.fixprog.specs.Turned.{mark_text, bound_text, range_text, input_text, word_text}
 use Rattle.fixprog.specs.Turned.{format_goal, output_goal, last_place_text, joined}
 use Rattle.program_truths.proofs.Lines.{IsWordText, quiet_blank, quiet_close, quiet_comma}
-use Rattle.program_truths.proofs.Lines.{comma_alone, open_alone, front_of_word}
+use Rattle.program_truths.proofs.Lines.{comma_alone, open_alone, front_of_word, piece}
 use Rattle.program_truths.proofs.Chunks.{Chunk, Any, Quiet, Before, seq, retold, behind_blank}
 use Rattle.program_truths.proofs.Chunks.{name_chunk, literal_chunk, sign_chunk}
 use Rattle.program_truths.proofs.Trees.{alone, also, so, name_expr, marked, end_bound, range_prop}
@@ -31,7 +32,6 @@ use Rattle.program_truths.proofs.Trees.{output_prop, input_props, and_all, goals
 use Rattle.program_truths.proofs.Trees.{goals_alone}
 use Rattle.program_truths.proofs.Operations.{minus_word}
 use Rattle.program_truths.proofs.StepLines.{IsPlaceText, place_chunk, close_alone}
-use Rattle.program_truths.proofs.Lines.{piece}
 
 -- ---- signs
 

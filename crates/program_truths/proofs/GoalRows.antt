@@ -10,11 +10,11 @@ use Rattle.std.proofs.lemmas.Slice.Eq.{bytes_eq-Decides}
 use Rattle.fx_model.specs.Fraction.{le_ℚ}
 use Rattle.fx_model.specs.Powers.{scaled-le}
 use Rattle.literal_order.specs.Values.{written_value}
+use Rattle.script_shape.specs.Expressions.{Bound, unsigned, positive, negative}
 use Rattle.script_bounds.specs.Tests.{is_less}
-use Rattle.script_shape.specs.Tree.{Bound, unsigned, positive, negative}
+use Rattle.script_judge.specs.Names.{is_among as judged_among}
 use Rattle.script_nodes.specs.Literals.{LiteralsAreTold, LiteralsAreTested, SpelledOnce}
 use Rattle.script_nodes.specs.Written.{bound_written}
-use Rattle.script_judge.specs.Names.{is_among as judged_among}
 use Rattle.fixprog.specs.declared.format.Format.{Format}
 use Rattle.fixprog.specs.declared.program.Mark.{Mark}
 use Rattle.fixprog.specs.declared.program.Mark.TheVariants as mark
@@ -26,14 +26,14 @@ use Rattle.fixprog.specs.Faults.{Before, is_among, is_literal, is_outside, is_cr
 use Rattle.fixprog.specs.Faults.{fault_if, new_name_faults, weight_faults, format_faults}
 use Rattle.fixprog.specs.Faults.{bound_faults, operand_faults, operation_faults, statement_faults}
 use Rattle.fixprog.specs.Faults.{is_way}
-use Rattle.program_truths.proofs.Trees.{end_bound, word_bound}
 use Rattle.fixprog.specs.NoFaults.{none_front, none_behind, not_if, no_if, short_by}
+use Rattle.fixprog.specs.Narrow.{narrow, power_below}
+use Rattle.program_truths.proofs.Trees.{end_bound, word_bound}
 use Rattle.program_truths.proofs.BoundValues.{text_with, word_reading, least_is, greatest_is}
 use Rattle.program_truths.proofs.Own.{apart}
 use Rattle.program_truths.proofs.Rows.{bound_fine, bound_number}
 use Rattle.program_truths.proofs.StepRows.{OperandFine, OperationFine, OperandApart, OperationApart}
 use Rattle.program_truths.proofs.StepRows.{operand_known, operation_known}
-use Rattle.fixprog.specs.Narrow.{narrow, power_below}
 
 number_is : (b : Bound) → bound_number b ≡ written_value (bound_written b)
 number_is (unsigned k t) = refl

@@ -14,9 +14,9 @@ use Rattle.script_words.specs.Quiet.{IsQuiet, EndsBeforeQuiet}
 use Rattle.script_words.specs.declared.class.Spelled.TheVariants as spelled
 use Rattle.script_words.specs.declared.class.Number.TheVariants as digits_kind
 use Rattle.script_words.specs.Named.{nothing, spelled_of, number_of, IsWordsOf}
-use Rattle.script_shape.specs.Tree.{plain, free, digits, opposite, fixed, term, factor, product}
-use Rattle.script_shape.specs.Tree.{atom, Atom, variable, rounded, exactly, Definition, names_value}
-use Rattle.script_shape.specs.Tree.{definition_words}
+use Rattle.script_shape.specs.Expressions.{plain, free, digits, opposite, fixed, term, factor}
+use Rattle.script_shape.specs.Expressions.{product, atom, Atom, variable, rounded}
+use Rattle.script_shape.specs.Tree.{exactly, Definition, names_value, definition_words}
 use Rattle.program_truths.proofs.Pieces.{Piece, printed, AreApart, piece_word, DefineNone}
 use Rattle.program_truths.proofs.Pieces.{tokens_at, reads_tokens, reads_words}
 

@@ -7,7 +7,7 @@ use Rattle.script_words.specs.declared.lex.TokenKind.{TokenKind}
 use Rattle.script_words.specs.declared.lex.TokenKind.TheVariants as kind
 use Rattle.script_words.specs.Lex.{front}
 use Rattle.script_words.specs.Quiet.{EndsBeforeQuiet}
-use Rattle.script_shape.specs.Tree.{atom_words, expr_words}
+use Rattle.script_shape.specs.Expressions.{atom_words, expr_words}
 use Rattle.fixprog.specs.Grammar.{Operand, named, given, Operation, copy, negation, sum, difference}
 use Rattle.fixprog.specs.Grammar.{product, shift_right, shift_left}
 use Rattle.fixprog.specs.Turned.{operand_text, operation_text}

@@ -19,7 +19,7 @@ use Rattle.script_claims.specs.declared.claim.Claim.TheVariants.{Bounded, Asked,
 use Rattle.script_claims.specs.declared.claim.Claim.TheVariants.{RelativeAsked, Multiple, Above}
 use Rattle.script_claims.specs.declared.claim.Claim.TheVariants.{Below}
 use Rattle.script_claims.specs.Facts.{slot_of}
-use Rattle.script_meets.specs.script_grammar.Spells.{View}
+use Rattle.script_grammar.specs.Spells.{View}
 use Rattle.fixprog.specs.Words.{Name}
 use Rattle.fixprog.specs.Grammar.{Step}
 use Rattle.fixprog.specs.Execution.{Values}

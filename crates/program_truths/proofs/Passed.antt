@@ -1,6 +1,6 @@
 -- All words of a program's script pass the judge of scripts.
-use Rattle.std.proofs.Common.{◌≡◌, ◌≤◌, ◌+◌, ◌*◌, ◌||◌, not, ℕ, Bool, true, false, List, []}
-use Rattle.std.proofs.Common.{◌∷◌, ◌++◌, length, map, None, refl, sym, ap, ◌∙◌, subst, arith}
+use Rattle.std.proofs.Common.{◌≡◌, ◌≤◌, ◌+◌, ◌*◌, ◌||◌, not, ℕ, Bool, true, false, List, [], ◌∷◌}
+use Rattle.std.proofs.Common.{◌++◌, length, map, None, refl, sym, ap, ◌∙◌, subst, arith}
 use Rattle.std.proofs.Common.{append_assoc}
 use Rattle.std.specs.List.{AllByRecursion}
 use Rattle.std.specs.Str.{bytes_eq}
@@ -8,14 +8,14 @@ use Rattle.script_words.specs.declared.class.Symbol.TheVariants as s
 use Rattle.script_words.specs.Words.{name, sign}
 use Rattle.script_words.specs.Named.{spelled_of}
 use Rattle.script_shape.specs.declared.due.Due.TheVariants as d
-use Rattle.script_shape.specs.Tree.{Prop, Formula}
+use Rattle.script_shape.specs.Propositions.{Prop, Formula}
 use Rattle.script_shape.specs.Roles.{Leaf, at, prop_leaves, formula_leaves, script_leaves}
-use Rattle.script_nodes.specs.Literals.{LiteralsAreTold, LiteralsAreTested, SpelledOnce}
 use Rattle.script_judge.specs.declared.counts.ScriptPart.TheVariants as place
 use Rattle.script_judge.specs.Names.{NamesSeen, no_names, is_new, is_among as judged_among}
 use Rattle.script_judge.specs.Counts.{one_if}
 use Rattle.script_judge.specs.Sides.{has_arrow}
 use Rattle.script_judge.specs.Judge.{nothing_seen, Judged}
+use Rattle.script_nodes.specs.Literals.{LiteralsAreTold, LiteralsAreTested, SpelledOnce}
 use Rattle.fixprog.specs.Words.{Name}
 use Rattle.fixprog.specs.Grammar.{Operand, named, given, Operation, copy, negation, sum, difference}
 use Rattle.fixprog.specs.Grammar.{product, shift_right, shift_left, Input, Step, Statement, input}
@@ -23,12 +23,12 @@ use Rattle.fixprog.specs.Grammar.{step, output, statement_words, Program, output
 use Rattle.fixprog.specs.Formats.{format_of, least, greatest}
 use Rattle.fixprog.specs.Faults.{Before, after, new_name_faults, known_name_faults, weight_faults}
 use Rattle.fixprog.specs.Faults.{statement_faults, faults_from, program_faults}
+use Rattle.fixprog.specs.NoFaults.{none_front, none_behind, light}
+use Rattle.fixprog.specs.Narrow.{narrow}
 use Rattle.program_truths.proofs.Trees.{end_bound, word_bound, range_prop, place_prop, format_prop}
 use Rattle.program_truths.proofs.Trees.{output_prop, input_props, alone, also, so, and_all}
 use Rattle.program_truths.proofs.Trees.{goals_behind, goals_alone, formula_of, program_formula}
 use Rattle.program_truths.proofs.Trees.{script_from, tree_of}
-use Rattle.fixprog.specs.NoFaults.{none_front, none_behind, light}
-use Rattle.fixprog.specs.Narrow.{narrow}
 use Rattle.program_truths.proofs.Own.{itself, among_front, among_last}
 use Rattle.program_truths.proofs.Passing.{Stands, passes}
 use Rattle.program_truths.proofs.Rows.{Passes, with_known, range_row, range_is, range_passes}

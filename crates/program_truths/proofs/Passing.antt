@@ -6,13 +6,13 @@ use Rattle.fx_model.specs.Grid.{signed}
 use Rattle.fx_model.specs.Expression.{literal_value}
 use Rattle.literal.specs.Spelling.{IsWithin, written}
 use Rattle.literal.specs.Normal.{IsPastLimits}
-use Rattle.script_bounds.specs.Texts.{IsNumber}
 use Rattle.script_words.specs.declared.class.Symbol.TheVariants as s
 use Rattle.script_words.specs.Words.{Word, name, literal, sign}
 use Rattle.script_shape.specs.declared.due.Due.{Due}
 use Rattle.script_shape.specs.declared.due.Due.TheVariants as d
 use Rattle.script_shape.specs.Roles.{Leaf}
-use Rattle.script_nodes.specs.Literals.{literal_of, LiteralsAreTested, SpelledOnce}
+use Rattle.script_cases.specs.Parts.{begun_cases}
+use Rattle.script_bounds.specs.Texts.{IsNumber}
 use Rattle.script_judge.specs.declared.counts.Counts.{Counts}
 use Rattle.script_judge.specs.declared.counts.ScriptPart.{ScriptPart}
 use Rattle.script_judge.specs.declared.nesting.Open.{Open}
@@ -27,10 +27,11 @@ use Rattle.script_judge.specs.Bounds.{bounds_after, is_bad_bound}
 use Rattle.script_judge.specs.Splits.{is_rangeless, is_bad_point}
 use Rattle.script_judge.specs.Numbers.{digits_of, has_no_pieces, is_past_lsb, is_past_pieces, Notes}
 use Rattle.script_judge.specs.Numbers.{is_number, IsPastWord, IsPast, Tells}
-use Rattle.script_judge.specs.Judge.{Seen, seen_after, is_ask, is_or, has_arrow, is_empty}
-use Rattle.script_judge.specs.Judge.{is_on_wrong_side, form_kind, limit_kind, is_past_cases}
-use Rattle.script_judge.specs.Judge.{refusal_at, Judged, none_refused, passed}
-use Rattle.script_cases.specs.Parts.{begun_cases}
+use Rattle.script_judge.specs.Judge.{Seen, seen_after, is_ask, is_empty, is_on_wrong_side}
+use Rattle.script_judge.specs.Judge.{form_kind, limit_kind, is_past_cases, refusal_at, Judged}
+use Rattle.script_judge.specs.Judge.{none_refused, passed}
+use Rattle.script_judge.specs.Sides.{is_or, has_arrow}
+use Rattle.script_nodes.specs.Literals.{literal_of, LiteralsAreTested, SpelledOnce}
 use Rattle.fixprog.specs.Faults.{is_literal}
 
 -- ---- what each word may be

@@ -6,9 +6,12 @@ use Rattle.expr_dag.specs.Extended.{ValuesStay}
 use Rattle.facts.specs.CommonParts.{all_from}
 use Rattle.script_words.specs.declared.lex.Token.{Token}
 use Rattle.script_words.specs.Quiet.{EndsBeforeQuiet}
-use Rattle.script_shape.specs.Tree.{Formula, no_hint}
-use Rattle.script_cases.specs.Met.{AreMet}
+use Rattle.script_shape.specs.Propositions.{Formula}
+use Rattle.script_shape.specs.Hints.{no_hint}
 use Rattle.script_shape.specs.Roles.{LeavesSpell}
+use Rattle.script_cases.specs.Met.{AreMet}
+use Rattle.goal_spans.specs.declared.span.Span.{Span}
+use Rattle.goal_spans.specs.Spans.{goal_spans}
 use Rattle.script_nodes.specs.Literals.{LiteralsAreTold, LiteralsAreTested, SpelledOnce}
 use Rattle.script_nodes.specs.Known.{Name, Known, nothing_known}
 use Rattle.script_nodes.specs.Definitions.{with_value}
@@ -17,11 +20,8 @@ use Rattle.script_claims.specs.declared.claim.Claim.{Claim}
 use Rattle.script_claims.specs.Claims.{formula_claims}
 use Rattle.script_claims.specs.Meets.{IsTrueAt}
 use Rattle.script_hints.specs.Hints.{no_hints}
-use Rattle.goal_spans.specs.declared.span.Span.{Span}
-use Rattle.goal_spans.specs.Spans.{goal_spans}
-use Rattle.script_meets.specs.script_grammar.Meaning.{meaning_of, meaning_from, body_meaning}
-use Rattle.script_meets.specs.script_grammar.Spells.{View, view_of, Spells as SpellsScript}
-use Rattle.script_meets.specs.script_grammar.Spells.{SpellsOnce}
+use Rattle.script_grammar.specs.Meaning.{meaning_of, meaning_from, body_meaning}
+use Rattle.script_grammar.specs.Spells.{View, view_of, Spells as SpellsScript, SpellsOnce}
 use Rattle.fixprog.specs.Grammar.{Input, Step, Program, outputs, step, output}
 use Rattle.fixprog.specs.Faults.{program_faults}
 use Rattle.fixprog.specs.Formats.{format_of, word_value}

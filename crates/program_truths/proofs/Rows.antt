@@ -5,14 +5,15 @@ use Rattle.std.proofs.Common.{arith, append_assoc}
 use Rattle.std.specs.Str.Parse.{digits_value}
 use Rattle.std.specs.Fmt.{decimal, digits}
 use Rattle.fx_model.specs.Fraction.{Fraction}
-use Rattle.script_bounds.specs.Tests.{is_less}
 use Rattle.script_words.specs.declared.class.Symbol.TheVariants as s
 use Rattle.script_words.specs.declared.class.Spelled.TheVariants as spelled
 use Rattle.script_words.specs.Words.{name, sign}
 use Rattle.script_words.specs.Named.{spelled_of}
 use Rattle.script_shape.specs.declared.due.Due.TheVariants as d
-use Rattle.script_shape.specs.Tree.{Bound, unsigned, positive, negative, between, lies_in}
+use Rattle.script_shape.specs.Expressions.{Bound, unsigned, positive, negative}
+use Rattle.script_shape.specs.Propositions.{between, lies_in}
 use Rattle.script_shape.specs.Roles.{Leaf, at, whole_leaves, bound_leaves, prop_leaves}
+use Rattle.script_bounds.specs.Tests.{is_less}
 use Rattle.script_judge.specs.declared.counts.ScriptPart.{ScriptPart}
 use Rattle.script_judge.specs.declared.counts.ScriptPart.TheVariants as place
 use Rattle.script_judge.specs.declared.nesting.Open.{Open}

@@ -2,7 +2,7 @@
 use Rattle.std.proofs.Common.{◌≡◌, ◌<◌, suc, subst, List, [], ◌∷◌, ◌++◌, length, map, refl, sym, ap}
 use Rattle.std.proofs.Common.{◌∙◌, arith, length-append, append_assoc, append-nil}
 use Rattle.fx_model.specs.declared.ExprId.{ExprId}
-use Rattle.script_shape.specs.Tree.{between, Prop, Formula}
+use Rattle.script_shape.specs.Propositions.{between, Prop, Formula}
 use Rattle.script_cases.specs.Parts.{Parts}
 use Rattle.script_nodes.specs.Known.{Name, Known, named}
 use Rattle.script_claims.specs.declared.claim.Claim.{Claim}

@@ -7,7 +7,8 @@ use Rattle.script_words.specs.declared.lex.TokenKind.TheVariants as kind
 use Rattle.script_words.specs.Lex.{front}
 use Rattle.script_words.specs.Quiet.{EndsBeforeQuiet}
 use Rattle.script_words.specs.Named.{IsWordsOf}
-use Rattle.script_shape.specs.Tree.{formula_words, script_words}
+use Rattle.script_shape.specs.Propositions.{formula_words}
+use Rattle.script_shape.specs.Tree.{script_words}
 use Rattle.fixprog.specs.Grammar.{Input, Program, outputs}
 use Rattle.fixprog.specs.Turned.{format_goal, output_goal, hypotheses_text, goals_text, input_text}
 use Rattle.fixprog.specs.Turned.{joined, lines_of, script_of}

@@ -1,7 +1,7 @@
 -- The script of a program in which nothing is wrong is read as its tree.
-use Rattle.std.proofs.Common.{◌≡◌, ◌<◌, ◌≤◌, ◌^◌, ◌-◌, ◌+◌, not, Bool, true, false, ℕ}
-use Rattle.std.proofs.Common.{pos, zero, suc, codes, arith, List, [], ◌∷◌, ◌++◌, length, map, refl}
-use Rattle.std.proofs.Common.{sym, ap, ◌∙◌, lit≤, if◌then◌else◌}
+use Rattle.std.proofs.Common.{◌≡◌, ◌<◌, ◌≤◌, ◌^◌, ◌-◌, ◌+◌, not, Bool, true, false, ℕ, pos, zero}
+use Rattle.std.proofs.Common.{suc, codes, arith, List, [], ◌∷◌, ◌++◌, length, map, refl, sym, ap}
+use Rattle.std.proofs.Common.{◌∙◌, lit≤, if◌then◌else◌}
 use Rattle.std.specs.Prelude.{neg_ℤ}
 use Rattle.std.specs.List.{AllByRecursion}
 use Rattle.std.specs.Str.{bytes_eq}
@@ -29,16 +29,16 @@ use Rattle.fixprog.specs.Faults.{faults_from, program_faults, is_way}
 use Rattle.fixprog.specs.Execution.{way_text}
 use Rattle.fixprog.specs.First.{IsAlone, IsAloneWord}
 use Rattle.fixprog.specs.Turned.{script_of}
+use Rattle.fixprog.specs.NoFaults.{none_front, none_behind, not_if, no_if, short_by}
+use Rattle.fixprog.specs.Narrow.{IsNarrow, narrow}
 use Rattle.program_truths.proofs.Lines.{IsWordText}
 use Rattle.program_truths.proofs.Trees.{tree_of}
 use Rattle.program_truths.proofs.Operations.{IsOperandText, IsOperationText}
 use Rattle.program_truths.proofs.StepLines.{IsStepText}
 use Rattle.program_truths.proofs.Formulas.{IsInputText, IsGoalText, IsWordBoundText}
-use Rattle.program_truths.proofs.Texts.{alone_word, place_is_text, right_is_text}
-use Rattle.program_truths.proofs.Texts.{left_is_text, word_is_text}
+use Rattle.program_truths.proofs.Texts.{alone_word, place_is_text, right_is_text, left_is_text}
+use Rattle.program_truths.proofs.Texts.{word_is_text}
 use Rattle.program_truths.proofs.Scripts.{HasTexts, script_is_read}
-use Rattle.fixprog.specs.NoFaults.{none_front, none_behind, not_if, no_if, short_by}
-use Rattle.fixprog.specs.Narrow.{IsNarrow, narrow}
 
 -- ---- formats
 

@@ -13,8 +13,9 @@ use Rattle.script_words.specs.Lex.{front}
 use Rattle.script_words.specs.Quiet.{EndsBeforeQuiet}
 use Rattle.script_words.specs.Words.{Word, name, literal, sign}
 use Rattle.script_words.specs.Named.{spelled_of, number_of}
-use Rattle.script_shape.specs.Tree.{whole_words, expr_words, definition_words, Formula}
-use Rattle.script_shape.specs.Tree.{script_words}
+use Rattle.script_shape.specs.Expressions.{whole_words, expr_words}
+use Rattle.script_shape.specs.Tree.{definition_words, script_words}
+use Rattle.script_shape.specs.Propositions.{Formula}
 use Rattle.fixprog.specs.Grammar.{Step}
 use Rattle.fixprog.specs.Formats.{format_of}
 use Rattle.fixprog.specs.Execution.{way_text}

@@ -13,13 +13,13 @@ use Rattle.script_words.specs.Named.{spelled_of, number_of}
 use Rattle.script_shape.specs.declared.due.Due.TheVariants as d
 use Rattle.script_shape.specs.Roles.{Leaf, at, whole_leaves, atom_leaves, expr_leaves}
 use Rattle.script_shape.specs.Roles.{definition_leaves}
-use Rattle.script_nodes.specs.Literals.{parts_of}
 use Rattle.script_judge.specs.declared.counts.ScriptPart.TheVariants as place
 use Rattle.script_judge.specs.declared.nesting.Open.{Open}
 use Rattle.script_judge.specs.declared.nesting.Open.TheVariants as open_is
 use Rattle.script_judge.specs.Names.{NamesSeen, is_new, is_among, is_used_before_end}
 use Rattle.script_judge.specs.Nesting.{without_minus}
 use Rattle.script_judge.specs.Counts.{one_if}
+use Rattle.script_nodes.specs.Literals.{parts_of}
 use Rattle.fixprog.specs.Words.{Name}
 use Rattle.fixprog.specs.Grammar.{Operand, named, given, Operation, copy, negation, sum, difference}
 use Rattle.fixprog.specs.Grammar.{product, shift_right, shift_left, Step}

@@ -10,11 +10,11 @@ use Rattle.fx_model.specs.Fraction.{Fraction}
 use Rattle.fx_model.specs.Rounded.{rounded}
 use Rattle.fx_model.specs.Expression.{IsOrdered}
 use Rattle.expr_dag.specs.Extended.{ValuesStay}
+use Rattle.script_shape.specs.Expressions.{free, fixed}
 use Rattle.script_nodes.specs.Operators.{direction_of, number_of, whole_value, rounding_of}
 use Rattle.script_nodes.specs.Known.{Name, Known, PlacedNode, entry_of, with_entry}
 use Rattle.script_nodes.specs.Definitions.{with_value}
 use Rattle.script_nodes.specs.Values.{expr_value}
-use Rattle.script_shape.specs.Tree.{free, fixed}
 use Rattle.fixprog.specs.Grammar.{Step}
 use Rattle.fixprog.specs.Formats.{format_of}
 use Rattle.fixprog.specs.Execution.{Values, exact_value, step_value, way_text}

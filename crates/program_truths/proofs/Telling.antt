@@ -12,12 +12,12 @@ use Rattle.fx_model.specs.Enclosure.{Lies}
 use Rattle.fx_model.specs.declared.ExprId.{ExprId}
 use Rattle.fx_model.specs.declared.Node.{Node}
 use Rattle.fx_model.specs.Expression.{Assignment, value}
+use Rattle.literal_order.specs.Values.{written_value}
 use Rattle.expr_dag.specs.Extended.{ValuesStay}
+use Rattle.script_bounds.specs.Bounds.{written_range}
 use Rattle.script_nodes.specs.Literals.{LiteralsAreTold, SpelledOnce}
 use Rattle.script_nodes.specs.Known.{Name, Known, named, entry_of}
 use Rattle.script_nodes.specs.Written.{bound_written}
-use Rattle.script_bounds.specs.Bounds.{written_range}
-use Rattle.literal_order.specs.Values.{written_value}
 use Rattle.script_claims.specs.declared.claim.Claim.{Claim}
 use Rattle.script_claims.specs.Claims.{exponent_of, exponent_size}
 use Rattle.script_claims.specs.Meets.{IsTrueAt}
@@ -27,10 +27,10 @@ use Rattle.fixprog.specs.Grammar.{Bound as End, Input, Step, Program, outputs}
 use Rattle.fixprog.specs.Formats.{format_of, is_format, is_within, least, greatest, word_value}
 use Rattle.fixprog.specs.Faults.{bound_value}
 use Rattle.fixprog.specs.Execution.{Values, step_value, run_steps, wraps, values}
+use Rattle.fixprog.specs.Narrow.{narrow}
 use Rattle.program_truths.specs.Promise.{subject, hypothesis_names, goal_names}
 use Rattle.program_truths.proofs.Trees.{place_whole, end_bound, word_bound}
 use Rattle.program_truths.proofs.Texts.{both, all_below, below}
-use Rattle.fixprog.specs.Narrow.{narrow}
 use Rattle.program_truths.proofs.Knowing.{IsFront, knows_behind, name_gives}
 use Rattle.program_truths.proofs.Growing.{Grows, grows_still, grows_both, grows_named, front_of}
 use Rattle.program_truths.proofs.Running.{Ready, all_values}

@@ -19,8 +19,8 @@ use Rattle.script_words.specs.Literals.{literal_len, scaled_len}
 use Rattle.script_words.specs.Signs.{sign_at}
 use Rattle.script_words.specs.Lex.{front, sign_token}
 use Rattle.script_words.specs.Named.{number_of}
-use Rattle.program_truths.proofs.Lines.{IsWordText}
 use Rattle.fixprog.specs.declared.format.Format.{Format}
+use Rattle.program_truths.proofs.Lines.{IsWordText}
 use Rattle.program_truths.proofs.Trees.{word_literal}
 use Rattle.program_truths.proofs.StepLines.{IsPlaceText, place_text}
 

@@ -3,12 +3,14 @@ use Rattle.std.proofs.Common.{ℕ, ℤ, pos, negsuc, zero, suc, codes, List, [],
 use Rattle.std.specs.Fmt.{decimal}
 use Rattle.std.specs.Str.Parse.{digits_value}
 use Rattle.script_words.specs.Named.{spelled_of, number_of}
-use Rattle.script_shape.specs.Tree.{plain, free, zero_alone, digits, Whole, natural, opposite}
-use Rattle.script_shape.specs.Tree.{Bound, unsigned, positive, negative, fixed, Expr, term, sum}
-use Rattle.script_shape.specs.Tree.{difference, factor, product, negation, atom, Atom, number}
-use Rattle.script_shape.specs.Tree.{variable, rounded, exactly, Definition, names_value, asked}
-use Rattle.script_shape.specs.Tree.{between, Prop, lies_in, multiple, affirmed, Formula, single}
-use Rattle.script_shape.specs.Tree.{and, implies, no_hint, Script, formula, define}
+use Rattle.script_shape.specs.Expressions.{plain, free, zero_alone, digits, Whole, natural}
+use Rattle.script_shape.specs.Expressions.{opposite, Bound, unsigned, positive, negative, fixed}
+use Rattle.script_shape.specs.Expressions.{Expr, term, sum, difference, factor, product, negation}
+use Rattle.script_shape.specs.Expressions.{atom, Atom, number, variable, rounded}
+use Rattle.script_shape.specs.Tree.{exactly, Definition, names_value, Script, formula, define}
+use Rattle.script_shape.specs.Propositions.{asked, between, Prop, lies_in, multiple, affirmed}
+use Rattle.script_shape.specs.Propositions.{Formula, single, and, implies}
+use Rattle.script_shape.specs.Hints.{no_hint}
 use Rattle.fixprog.specs.declared.program.Mark.{Mark}
 use Rattle.fixprog.specs.declared.program.Mark.TheVariants as mark
 use Rattle.fixprog.specs.Words.{Name}

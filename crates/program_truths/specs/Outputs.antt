@@ -12,7 +12,7 @@ use Rattle.script_nodes.specs.Known.{entry_of}
 use Rattle.script_claims.specs.declared.claim.Claim.{Claim}
 use Rattle.script_claims.specs.Facts.{slot_of}
 use Rattle.script_claims.specs.Meets.{IsTrueAt}
-use Rattle.script_meets.specs.script_grammar.Spells.{View, Spells as SpellsScript}
+use Rattle.script_grammar.specs.Spells.{View, Spells as SpellsScript}
 use Rattle.script_meets.specs.Meets.{Meets}
 use Rattle.fixprog.specs.Words.{Name}
 use Rattle.fixprog.specs.Grammar.{Program}

@@ -3,15 +3,15 @@ use Rattle.std.specs.Prelude.{◌≡◌, ◌↔◌, ⊤, ℕ, ℤ, List, [], ◌
 use Rattle.std.specs.List.{AllByRecursion}
 use Rattle.fx_model.specs.Fraction.{Fraction}
 use Rattle.fx_model.specs.Expression.{Assignment, value}
-use Rattle.script_nodes.specs.Known.{entry_of}
 use Rattle.fx_model.specs.declared.ExprId.{ExprId}
+use Rattle.script_nodes.specs.Known.{entry_of}
 use Rattle.script_claims.specs.declared.claim.Claim.{Claim}
 use Rattle.script_claims.specs.declared.claim.Claim.TheVariants.{Bounded, Asked, Relative}
 use Rattle.script_claims.specs.declared.claim.Claim.TheVariants.{RelativeAsked, Multiple, Above}
 use Rattle.script_claims.specs.declared.claim.Claim.TheVariants.{Below}
 use Rattle.script_claims.specs.Meets.{IsTrueAt}
-use Rattle.script_meets.specs.script_grammar.Spells.{View, Spells as SpellsScript}
 use Rattle.script_hints.specs.Hints.{no_hints}
+use Rattle.script_grammar.specs.Spells.{View, Spells as SpellsScript}
 use Rattle.script_meets.specs.Meets.{Meets}
 use Rattle.fixprog.specs.Words.{Name}
 use Rattle.fixprog.specs.Grammar.{Input, Program, outputs}

@@ -4,7 +4,7 @@ ghost use Rattle.program_truths.specs.Outputs.{OutputsLie};
 
 use expr_dag::values_stay;
 use fixprog::turn::{spelled_are_sound, words_are_alone};
-use script_meets::script_or_refusal;
+use script_grammar::script_or_refusal;
 use script_nodes::laws::literals_are_told;
 use script_shape::shape::leaves_are_of_trees;
 use script_words::laws::ends_before_quiet;

@@ -1,8 +1,6 @@
 //! What a program's script says of its runs.
 #![tactic(auto)]
 
-// What callers name of the crates below.
-pub use script_meets::script_or_refusal;
 
 mod laws;
 

@@ -1,14 +1,14 @@
 -- How a text is answered, at `Answered` and at each other status.
 use Rattle.std.specs.Prelude.{◌≡◌, ◌≢◌, ◌⊎◌, Option, Some, None}
 use Rattle.std.proofs.Common.{inl, inr, refl, sym, subst}
-use Rattle.script_answers.specs.settler.Answers.{Options}
+use Rattle.settler.specs.Answers.{Options}
 use Rattle.command_runs.specs.Runs.{Bytes}
 use Rattle.command_runs.specs.Fates.{Left, MayWrite}
 use Rattle.command_runs.specs.Fates.Left.{Kept}
 use Rattle.command_runs.specs.declared.status.Status.{Status}
 use Rattle.command_runs.specs.declared.status.Status.TheVariants as status
+use Rattle.script_texts.specs.Texts.{IsLong, no_script}
 use Rattle.script_answers.specs.Answers.{IsAnswered, ProvePrints}
-use Rattle.script_answers.specs.script_texts.Texts.{IsLong, no_script}
 use Rattle.script_answers.specs.Texts.{long_prints}
 use Rattle.prove_command.specs.Command.{IsCertificateOf, MakesFor, TextFate}
 

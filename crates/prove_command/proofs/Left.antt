@@ -1,17 +1,17 @@
 -- What is left in the file for the certificate of a script that is answered with lines.
 use Rattle.std.specs.Prelude.{◌≡◌, ⊤, ℕ, List, Option, Some, None, Result, Ok, Err, OnOk, OnErr}
 use Rattle.std.proofs.Common.{inl, inr, refl, sym, subst, ◌∙◌, arith}
-use Rattle.cert_writer.specs.goals.declared.line.Line.{Line}
-use Rattle.script_answers.specs.script_grammar.Spells.{View}
-use Rattle.script_answers.specs.settler.Answers.{Options, IsProved}
-use Rattle.cert_writer.specs.Written.{OfProved, HoldsCertificate, HoldsFront}
-use Rattle.cert_writer.specs.declared.walk.WriteStop.{WriteStop}
+use Rattle.goals.specs.declared.line.Line.{Line}
+use Rattle.script_grammar.specs.Spells.{View}
+use Rattle.settler.specs.Answers.{Options, IsProved}
 use Rattle.command_runs.specs.Runs.{Bytes, Told}
 use Rattle.command_runs.specs.Fates.{Left, Leaves, Makes, begun}
 use Rattle.command_runs.specs.Fates.Left.{Kept, Whole}
 use Rattle.command_runs.specs.declared.status.Status.TheVariants as status
 use Rattle.script_answers.specs.Answers.{AreAllowed, IsAnswered, ProvePrints, options_from}
 use Rattle.script_answers.specs.declared.options.Options.{Options as Asking}
+use Rattle.cert_writer.specs.Written.{OfProved, HoldsCertificate, HoldsFront}
+use Rattle.cert_writer.specs.declared.walk.WriteStop.{WriteStop}
 use Rattle.prove_command.specs.Certified.{HasWriteCause, IsAnsweredWith, IsCertified, IsSpared}
 use Rattle.prove_command.specs.Certified.{IsStopped, left_by}
 use Rattle.prove_command.specs.Command.{IsCertificateOf, MakesFor, TextFate}

@@ -1,9 +1,7 @@
 -- A run of `prove`, by what its parts did.
 use Rattle.std.specs.Prelude.{◌≡◌, ◌≢◌, ℕ, Option, Some, None, Result, Ok, Err}
 use Rattle.std.proofs.Common.{inl, inr, refl, subst, ◌∙◌}
-use Rattle.script_answers.specs.settler.Answers.{Options}
-use Rattle.cert_writer.specs.declared.walk.WriteStop.{WriteStop}
-use Rattle.cert_writer.specs.declared.walk.WriteStop.TheVariants as write_stop
+use Rattle.settler.specs.Answers.{Options}
 use Rattle.command_line.specs.Reading.{Asked}
 use Rattle.whole_texts.specs.Texts.{IsText}
 use Rattle.whole_texts.specs.declared.read.ReadStop.{ReadStop}
@@ -17,9 +15,11 @@ use Rattle.command_runs.specs.Ends.{run_by, starved_runs, stop_runs, unread_kept
 use Rattle.command_runs.specs.Ends.{unwritten_runs}
 use Rattle.command_runs.specs.declared.status.Status.{Status}
 use Rattle.command_runs.specs.declared.status.Status.TheVariants as status
+use Rattle.script_texts.specs.Texts.{told_text}
 use Rattle.script_answers.specs.Answers.{ProvePrints, options_of}
 use Rattle.script_answers.specs.Laws.{TextAnswersAreOne, prints_done}
-use Rattle.script_answers.specs.script_texts.Texts.{told_text}
+use Rattle.cert_writer.specs.declared.walk.WriteStop.{WriteStop}
+use Rattle.cert_writer.specs.declared.walk.WriteStop.TheVariants as write_stop
 use Rattle.prove_command.specs.Certified.{HasWriteCause, IsCertified, IsPutBehind, IsStopped}
 use Rattle.prove_command.specs.Certified.{left_by}
 use Rattle.prove_command.specs.Command.{IsCutOff, TextFate, ProveTold, ProveFate, IsProveRun}

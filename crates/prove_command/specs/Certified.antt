@@ -5,16 +5,16 @@ use Rattle.std.specs.Borrow.{Bor}
 use Rattle.std.specs.Option.{option_map}
 use Rattle.std.specs.Io.KnownBytes.{Keeps}
 use Rattle.fx_edge.specs.Outside.{Rose}
-use Rattle.script_answers.specs.script_grammar.Spells.{View}
-use Rattle.script_answers.specs.settler.Answers.{Options}
-use Rattle.script_answers.specs.Answers.{IsAnswered, ProvePrints}
-use Rattle.cert_writer.specs.declared.walk.WriteStop.{WriteStop}
-use Rattle.cert_writer.specs.declared.walk.WriteStop.TheVariants as write_stop
+use Rattle.script_grammar.specs.Spells.{View}
+use Rattle.settler.specs.Answers.{Options}
 use Rattle.command_runs.specs.Runs.{Bytes, Told}
 use Rattle.command_runs.specs.Fates.{Left, Leaves, begun}
 use Rattle.command_runs.specs.Ends.{IsPut}
 use Rattle.command_runs.specs.declared.status.Status.{Status}
 use Rattle.command_runs.specs.declared.status.Status.TheVariants as status
+use Rattle.script_answers.specs.Answers.{IsAnswered, ProvePrints}
+use Rattle.cert_writer.specs.declared.walk.WriteStop.{WriteStop}
+use Rattle.cert_writer.specs.declared.walk.WriteStop.TheVariants as write_stop
 use Rattle.prove_command.specs.Command.{TextFate}
 use Rattle.prove_command.specs.declared.certify.Certified.{Certified}
 

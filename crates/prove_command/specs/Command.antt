@@ -1,9 +1,8 @@
 -- What `prove` comes to: its lines, and the certificate that it writes.
 use Rattle.std.specs.Prelude.{◌≡◌, ◌≤◌, ◌⊎◌, ◌^◌, List, length, Option, Some, None}
-use Rattle.cert_writer.specs.goals.declared.line.Line.{Line}
-use Rattle.script_answers.specs.script_grammar.Spells.{View}
-use Rattle.script_answers.specs.settler.Answers.{Options}
-use Rattle.cert_writer.specs.Written.{AreWrittenFor}
+use Rattle.goals.specs.declared.line.Line.{Line}
+use Rattle.script_grammar.specs.Spells.{View}
+use Rattle.settler.specs.Answers.{Options}
 use Rattle.command_line.specs.Reading.{Asked}
 use Rattle.command_runs.specs.Runs.{Bytes, Run, IsSilent, WriteFailed}
 use Rattle.command_runs.specs.Fates.{Left, Fate, Makes, OfText, OrUnread, IsKeptFile, MayWrite}
@@ -11,6 +10,7 @@ use Rattle.command_runs.specs.Fates.{IsRunOf}
 use Rattle.command_runs.specs.Fates.Left.{Kept}
 use Rattle.command_runs.specs.declared.status.Status.TheVariants as status
 use Rattle.script_answers.specs.Answers.{IsAnswered, ProvePrints, options_of}
+use Rattle.cert_writer.specs.Written.{AreWrittenFor}
 
 -- A write of the folder failed, or memory ran out, and the sink took nothing.
 pub record IsCutOff (r : Run) : Type 0 where

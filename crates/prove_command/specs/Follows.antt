@@ -1,9 +1,8 @@
 -- What follows of a run of `prove`: what the certificate's file holds, by how the run ended.
 use Rattle.std.specs.Prelude.{◌≡◌, ◌≢◌, ◌≤◌, ◌⊎◌, ◌^◌, List, [], length, Option, Some, None}
 use Rattle.std.proofs.Common.{inl, inr, refl, sym, subst, ◌∙◌, append-nil}
-use Rattle.cert_writer.specs.goals.declared.line.Line.{Line}
-use Rattle.script_answers.specs.script_grammar.Spells.{View}
-use Rattle.cert_writer.specs.Written.{HoldsCertificate, HoldsFront}
+use Rattle.goals.specs.declared.line.Line.{Line}
+use Rattle.script_grammar.specs.Spells.{View}
 use Rattle.command_line.specs.Reading.{Asked}
 use Rattle.whole_texts.specs.Pieces.{IsFront}
 use Rattle.command_runs.specs.Runs.{Bytes, Run, IsKept, IsSilent, Puts, PutsFront, ReadFailed}
@@ -16,6 +15,7 @@ use Rattle.command_runs.specs.Statuses.{read_fault_line}
 use Rattle.command_runs.specs.declared.status.Status.{Status}
 use Rattle.command_runs.specs.declared.status.Status.TheVariants as status
 use Rattle.script_answers.specs.Answers.{IsAnswered, ProvePrints, options_of}
+use Rattle.cert_writer.specs.Written.{HoldsCertificate, HoldsFront}
 use Rattle.prove_command.specs.Command.{IsCutOff, IsCertificateOf, MakesFor, ProveFate, IsProveRun}
 
 -- ---- one file

@@ -1,26 +1,29 @@
 // What comes of a text: its lines, and the certificate that is written once they are made.
 ghost use Rattle.std.specs.Prelude.{◌≡◌, ◌≢◌, ℕ, List, [], Some, IfOk, IsErrOf, OnOk, OnErr};
-ghost use Rattle.cert_writer.specs.goals.declared.line.Line.{Line};
-ghost use Rattle.script_answers.specs.report.script_judge.declared.refusal.Refusal.{Refusal};
-ghost use Rattle.script_answers.specs.script_grammar.Spells.{IsRefused};
-ghost use Rattle.script_answers.specs.universe.Universes.{IsUniverse, IsTooLarge};
-ghost use Rattle.script_answers.specs.settler.Answers.{IsProved};
-ghost use Rattle.script_answers.specs.settler.rewrite_hints.Marks.{AreMarks};
+ghost use Rattle.goals.specs.declared.line.Line.{Line};
+ghost use Rattle.script_judge.specs.declared.refusal.Refusal.{Refusal};
+ghost use Rattle.script_grammar.specs.Spells.{IsRefused};
+ghost use Rattle.rewrite_hints.specs.Marks.{AreMarks};
+ghost use Rattle.universe.specs.Universes.{IsUniverse, IsTooLarge};
+ghost use Rattle.settler.specs.Answers.{IsProved};
 ghost use Rattle.whole_texts.specs.OnlyWrites.{OnlyWrites};
+ghost use Rattle.script_answers.specs.Answers.{AreAllowed, IsFound, options_from};
 ghost use Rattle.cert_writer.specs.Cases.{IsPlanned};
 ghost use Rattle.cert_writer.specs.declared.walk.WriteStop.TheVariants as WriteStop;
 ghost use Rattle.cert_writer.specs.Written.{HoldsCertificate, HoldsFront};
-ghost use Rattle.script_answers.specs.Answers.{AreAllowed, IsFound, options_from};
 ghost use Rattle.prove_command.specs.Certified.{HasWriteCause, IsAnsweredWith, IsCertified};
 ghost use Rattle.prove_command.specs.Certified.{IsSpared, name_of};
 
 use cert_writer::{WriteStop, write_cert};
 use command_runs::Status;
 use fx_edge::{Folder, Gate};
-use script_answers::{
-    Case, Found, HintMark, Options, ParseStop, Script, Universe, UniverseFault, build, classify,
-    parse, planned_cases, prove_over, proved_lines, refused_line, unbuilt_line,
-};
+use settler::{Case, planned_cases};
+use script_answers::{Found, Options, prove_over, proved_lines, unbuilt_line};
+use facts::HintMark;
+use script_grammar::{ParseStop, Script, parse};
+use rule_universe::Universe;
+use universe::{UniverseFault, build, classify};
+use script_texts::refused_line;
 use std::alloc::{AllocError, Global};
 use std::sync::Wait;
 use std::thread::Threads;

@@ -2,10 +2,10 @@
 -- with a line feed.
 use Rattle.std.specs.Prelude.{◌++◌, codes}
 use Rattle.std.specs.Fmt.{decimal}
-use Rattle.cert_checker.specs.cert_bytes.declared.fault.CertFault.{CertFault}
-use Rattle.cert_checker.specs.cert_bytes.declared.fault.CertKind.{CertKind}
-use Rattle.cert_checker.specs.cert_bytes.declared.fault.CertKind.TheVariants as kind
-use Rattle.cert_checker.specs.cert_bytes.declared.style.Seen.{Seen}
+use Rattle.cert_bytes.specs.declared.fault.CertFault.{CertFault}
+use Rattle.cert_bytes.specs.declared.fault.CertKind.{CertKind}
+use Rattle.cert_bytes.specs.declared.fault.CertKind.TheVariants as kind
+use Rattle.cert_bytes.specs.declared.style.Seen.{Seen}
 use Rattle.cert_checker.specs.declared.fault.CheckFault.{CheckFault}
 use Rattle.cert_checker.specs.declared.fault.CheckFault.TheVariants as fault
 use Rattle.report.specs.Lines.{Bytes}

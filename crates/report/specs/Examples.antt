@@ -7,16 +7,16 @@ use Rattle.fx_model.specs.Powers.{scaled-le, scaled-shift}
 use Rattle.dyadic.specs.declared.number.Dyadic.{Dyadic}
 use Rattle.dyadic.specs.declared.number.End.TheVariants as end
 use Rattle.dyadic.specs.Canonical.{IsCanonical}
-use Rattle.cert_checker.specs.interval.declared.interval.Interval.{Interval}
+use Rattle.interval.specs.declared.interval.Interval.{Interval}
+use Rattle.facts.specs.declared.hint.HintMark.TheVariants.{Checked, Assumed}
+use Rattle.goals.specs.declared.line.Line.TheVariants as shown
 use Rattle.script_words.specs.declared.class.Symbol.TheVariants as sign
 use Rattle.script_words.specs.declared.lex.Token.{Token}
 use Rattle.script_words.specs.declared.lex.TokenKind.TheVariants as token
-use Rattle.cert_checker.specs.cert_bytes.declared.fault.CertKind.TheVariants as cert
+use Rattle.script_judge.specs.declared.refusal.LimitKind.TheVariants as limit
+use Rattle.script_judge.specs.declared.refusal.RefusalKind.TheVariants as kind
+use Rattle.cert_bytes.specs.declared.fault.CertKind.TheVariants as cert
 use Rattle.cert_checker.specs.declared.fault.CheckFault.TheVariants as check
-use Rattle.script_grammar.specs.script_judge.declared.refusal.LimitKind.TheVariants as limit
-use Rattle.script_grammar.specs.script_judge.declared.refusal.RefusalKind.TheVariants as kind
-use Rattle.cert_checker.specs.facts.declared.hint.HintMark.TheVariants.{Checked, Assumed}
-use Rattle.cert_checker.specs.goals.declared.line.Line.TheVariants as shown
 use Rattle.report.specs.Lines.{Bytes, refusal_line}
 use Rattle.report.specs.Proved.{goal_line, hint_lines}
 use Rattle.report.specs.Certificates.{cert_fault_line, check_fault_line}

@@ -3,13 +3,13 @@ use Rattle.std.specs.Prelude.{ℕ, ◌++◌, codes, List, slice_range}
 use Rattle.std.specs.List.{join_by}
 use Rattle.std.specs.Fmt.{decimal}
 use Rattle.dyadic.specs.Texts.{end_text}
-use Rattle.cert_checker.specs.interval.declared.interval.Interval.{Interval}
+use Rattle.interval.specs.declared.interval.Interval.{Interval}
 use Rattle.script_words.specs.declared.lex.Token.{Token}
-use Rattle.script_grammar.specs.script_judge.declared.refusal.LimitKind.{LimitKind}
-use Rattle.script_grammar.specs.script_judge.declared.refusal.LimitKind.TheVariants as limit
-use Rattle.script_grammar.specs.script_judge.declared.refusal.RefusalKind.{RefusalKind}
-use Rattle.script_grammar.specs.script_judge.declared.refusal.RefusalKind.TheVariants as kind
-use Rattle.script_grammar.specs.script_judge.declared.refusal.Refusal.{Refusal}
+use Rattle.script_judge.specs.declared.refusal.LimitKind.{LimitKind}
+use Rattle.script_judge.specs.declared.refusal.LimitKind.TheVariants as limit
+use Rattle.script_judge.specs.declared.refusal.RefusalKind.{RefusalKind}
+use Rattle.script_judge.specs.declared.refusal.RefusalKind.TheVariants as kind
+use Rattle.script_judge.specs.declared.refusal.Refusal.{Refusal}
 
 -- Text as it is read or printed, byte by byte.
 abbrev pub Bytes : Type 0

@@ -1,12 +1,12 @@
 -- The lines of a script whose goals are proved.
 use Rattle.std.specs.Prelude.{ℕ, ◌+◌, ◌++◌, codes, List, [], ◌∷◌, slice_range}
 use Rattle.std.specs.Fmt.{decimal}
-use Rattle.cert_checker.specs.facts.declared.hint.HintMark.{HintMark}
-use Rattle.cert_checker.specs.facts.declared.hint.HintMark.TheVariants.{Checked, Assumed}
-use Rattle.script_grammar.specs.goal_spans.declared.span.Span.{Span}
-use Rattle.cert_checker.specs.goals.declared.line.Line.{Line}
-use Rattle.cert_checker.specs.goals.declared.line.Line.TheVariants as shown
+use Rattle.facts.specs.declared.hint.HintMark.{HintMark}
+use Rattle.facts.specs.declared.hint.HintMark.TheVariants.{Checked, Assumed}
+use Rattle.goals.specs.declared.line.Line.{Line}
+use Rattle.goals.specs.declared.line.Line.TheVariants as shown
 use Rattle.script_words.specs.declared.lex.Token.{Token}
+use Rattle.goal_spans.specs.declared.span.Span.{Span}
 use Rattle.report.specs.Lines.{Bytes, joined, interval_text}
 
 -- what is shown of a goal: an interval; that both sides of a relative goal are 0; that no

@@ -6,7 +6,7 @@ use Rattle.std.specs.Fmt.{decimal}
 use Rattle.fx_model.specs.declared.ExprId.{ExprId}
 use Rattle.fx_model.specs.declared.Node.{Node}
 use Rattle.fx_model.specs.declared.Node.TheVariants.{Var}
-use Rattle.box_tree.specs.script_nodes.Known.{Name}
+use Rattle.script_nodes.specs.Known.{Name}
 use Rattle.script_grammar.specs.Spells.{View}
 use Rattle.box_tree.specs.Regions.{PlanParts}
 use Rattle.box_tree.specs.Plans.{range_at}

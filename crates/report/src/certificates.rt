@@ -3,7 +3,8 @@
 ghost use Rattle.std.specs.Prelude.{◌≡◌, IfOk, string_bytes};
 ghost use Rattle.report.specs.Certificates as spec;
 
-use cert_checker::{CertFault, CertKind, CheckFault, Seen};
+use cert_bytes::{CertFault, CertKind, Seen};
+use cert_checker::CheckFault;
 use std::alloc::{AllocError, Global};
 
 /// The kind's name.

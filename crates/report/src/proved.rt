@@ -6,8 +6,10 @@ ghost use Rattle.report.specs.Proved as spec;
 
 use crate::joined::put_joined;
 use crate::parts::part;
-use cert_checker::{HintMark, Interval, Line};
-use script_grammar::Span;
+use facts::HintMark;
+use interval::Interval;
+use goals::Line;
+use goal_spans::Span;
 use script_words::lex::Token;
 use std::alloc::{AllocError, Global};
 

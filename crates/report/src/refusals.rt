@@ -3,7 +3,7 @@
 ghost use Rattle.std.specs.Prelude.{◌≡◌, IfOk};
 ghost use Rattle.report.specs.Lines as spec;
 
-use script_grammar::{LimitKind, Refusal, RefusalKind};
+use script_judge::{LimitKind, Refusal, RefusalKind};
 use std::alloc::{AllocError, Global};
 
 /// The kind's name, with what there is too much of.

@@ -3,10 +3,10 @@ use Rattle.std.specs.Prelude.{◌≡◌, ◌⊎◌, ◌+◌, ◌<◌, ℕ, List,
 use Rattle.std.proofs.Common.{inl, inr, arith, ap, sym, ◌∙◌, subst}
 use Rattle.std.proofs.lemmas.Option.{slice_get_within, none-some}
 use Rattle.std.proofs.lemmas.Bool.{cases_lt}
-use Rattle.script_hints.specs.fx_model.declared.ExprId.{ExprId}
-use Rattle.script_hints.specs.fx_model.declared.Node.{Node}
-use Rattle.script_hints.specs.declared.hint.Hint.{Hint}
+use Rattle.fx_model.specs.declared.ExprId.{ExprId}
+use Rattle.fx_model.specs.declared.Node.{Node}
 use Rattle.poly_normal.specs.Parts.{IsSide}
+use Rattle.script_hints.specs.declared.hint.Hint.{Hint}
 use Rattle.rewrite_hints.specs.Marks.{AreSidesOf, AreKnownSides}
 use Rattle.rewrite_hints.proofs.Flags.{before_last, last_at, ends_with}
 

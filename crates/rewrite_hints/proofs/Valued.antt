@@ -1,32 +1,28 @@
 -- An expression whose divisors have values other than 0 has a value.
 use Rattle.std.specs.Prelude.{◌≡◌, ◌≢◌, ◌<◌, ℕ, zero, suc, Bool, true, false, if◌then◌else◌, Option}
-use Rattle.std.specs.Prelude.{Some, None, List, map, slice_index_or, length}
-use Rattle.std.specs.Prelude.{refl}
+use Rattle.std.specs.Prelude.{Some, None, List, map, slice_index_or, length, refl}
 use Rattle.std.specs.Option.{IsSomeAnd}
 use Rattle.std.specs.List.{AllByRecursion}
 use Rattle.std.proofs.Common.{inl, inr, arith, ap, sym, ◌∙◌, subst}
 use Rattle.std.proofs.lemmas.Option.{slice_get_within, slice_get-get_or, get_or_from_slice_get}
-use Rattle.script_hints.specs.fx_model.Fraction.{Fraction, ◌+ℚ◌, ◌-ℚ◌, ◌*ℚ◌, ◌/ℚ◌, neg_ℚ, abs_ℚ}
-use Rattle.script_hints.specs.fx_model.Fraction.{zero_ℚ}
-use Rattle.script_hints.specs.fx_model.Fraction.{is_zero_ℚ, is_zero_out}
-use Rattle.script_hints.specs.fx_model.Rounded.{rounded}
-use Rattle.script_hints.specs.fx_model.Expression.{Assignment, ChildrenBelow, IsOrdered, node_value}
-use Rattle.script_hints.specs.fx_model.Expression.{value}
-use Rattle.script_hints.specs.fx_model.Expression.{lift₁, lift₂, quotient}
-use Rattle.script_hints.specs.fx_model.declared.ExprId.{ExprId}
-use Rattle.script_hints.specs.fx_model.declared.Node.{Node}
-use Rattle.script_hints.specs.fx_model.declared.Node.TheVariants.{Var, Lit, Neg, Add, Sub, Mul, Div}
-use Rattle.script_hints.specs.fx_model.declared.Node.TheVariants.{Abs, Round}
-use Rattle.poly_normal.specs.expr_dag.Nodes.{IsAt}
-use Rattle.poly_normal.specs.expr_dag.Shapes.{node_at-value}
-use Rattle.script_hints.specs.facts.Rows.{IsMet, row_by_values}
+use Rattle.fx_model.specs.Fraction.{Fraction, ◌+ℚ◌, ◌-ℚ◌, ◌*ℚ◌, ◌/ℚ◌, neg_ℚ, abs_ℚ, zero_ℚ}
+use Rattle.fx_model.specs.Fraction.{is_zero_ℚ, is_zero_out}
+use Rattle.fx_model.specs.Rounded.{rounded}
+use Rattle.fx_model.specs.Expression.{Assignment, ChildrenBelow, IsOrdered, node_value, value}
+use Rattle.fx_model.specs.Expression.{lift₁, lift₂, quotient}
+use Rattle.fx_model.specs.declared.ExprId.{ExprId}
+use Rattle.fx_model.specs.declared.Node.{Node}
+use Rattle.fx_model.specs.declared.Node.TheVariants.{Var, Lit, Neg, Add, Sub, Mul, Div, Abs, Round}
+use Rattle.expr_dag.specs.Nodes.{IsAt}
+use Rattle.expr_dag.specs.Shapes.{node_at-value}
+use Rattle.facts.specs.Rows.{IsMet, row_by_values}
+use Rattle.facts.specs.Known.{some_out}
+use Rattle.facts.specs.CommonParts.{all_at}
 use Rattle.script_hints.specs.Needs.{need_of}
 use Rattle.script_hints.specs.Meets.{MetSidesAreEqual}
 use Rattle.rewrite_hints.specs.Divisors.{Occurs, IsDivisor, IsMadeOf}
 use Rattle.rewrite_hints.specs.Divisors.Occurs.{itself, inside}
 use Rattle.rewrite_hints.specs.Rows.{RowsAreTrue, EqualSidesAreMet}
-use Rattle.script_hints.specs.facts.Known.{some_out}
-use Rattle.script_hints.specs.facts.CommonParts.{all_at}
 
 abbrev HasValue : Option Fraction → Type 0
 HasValue o = (r : Fraction) × (o ≡ Some r)

@@ -1,13 +1,13 @@
 -- The row of a hint, and why it is true of an assignment.
 use Rattle.std.specs.Prelude.{◌≡◌, ◌<◌, List, map, length}
-use Rattle.script_hints.specs.fx_model.Expression.{Assignment, IsOrdered}
-use Rattle.script_hints.specs.fx_model.declared.Node.{Node}
-use Rattle.script_hints.specs.facts.declared.hint.HintRow.{HintRow}
-use Rattle.script_hints.specs.facts.Rows.{RowIsTrue}
+use Rattle.fx_model.specs.Expression.{Assignment, IsOrdered}
+use Rattle.fx_model.specs.declared.Node.{Node}
+use Rattle.poly_normal.specs.Mark.{HaveEqualValues}
+use Rattle.facts.specs.declared.hint.HintRow.{HintRow}
+use Rattle.facts.specs.Rows.{RowIsTrue}
 use Rattle.script_hints.specs.declared.hint.Hint.{Hint}
 use Rattle.script_hints.specs.Needs.{need_of}
 use Rattle.script_hints.specs.Meets.{MeetsHint}
-use Rattle.poly_normal.specs.Mark.{HaveEqualValues}
 use Rattle.rewrite_hints.specs.Divisors.{AreDivisors}
 
 -- the hint with the divisors that occur in its left side, and its constraints with rounded bounds

@@ -7,9 +7,9 @@ ghost use Rattle.rewrite_hints.specs.Marks.{AreRows, AreKnownSides};
 
 use crate::divisors::divisors_of;
 use fx_edge::Items;
-use poly_normal::Dag;
+use expr_dag::Dag;
 use script_hints::hint::{Constraint, Hint};
-use script_hints::{HintRow, Need};
+use facts::{HintRow, Need};
 use std::alloc::{AllocError, Global};
 
 // The constraints with their bounds rounded to the grid, so that what meets them meets the written

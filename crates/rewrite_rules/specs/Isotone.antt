@@ -3,18 +3,18 @@
 use Rattle.std.specs.Prelude.{◌≡◌, ◌&&◌, true, [], ◌∷◌, Option, Some, None, refl}
 use Rattle.std.proofs.Common.{sym, subst}
 use Rattle.std.proofs.lemmas.Bool.{and_parts}
-use Rattle.expr_dag.specs.fx_model.Fraction.{zero_ℚ}
-use Rattle.expr_dag.specs.fx_model.Grid.{At}
-use Rattle.expr_dag.specs.fx_model.declared.ExprId.{ExprId}
-use Rattle.expr_dag.specs.fx_model.declared.Node.{Node}
-use Rattle.expr_dag.specs.fx_model.declared.Node.TheVariants as node
-use Rattle.facts.specs.dyadic.Order.{le_bound, bound_trans}
-use Rattle.facts.specs.dyadic.Compared.{BoundLe_out}
-use Rattle.facts.specs.interval.declared.interval.Interval.{Interval}
-use Rattle.facts.specs.interval.Intervals.{range_of}
-use Rattle.facts.specs.interval.Results.{negation_of, sum_of, difference_of, product_of}
-use Rattle.facts.specs.interval.Monotone.{negation_of-within, sum_of-within, difference_of-within}
-use Rattle.facts.specs.interval.Monotone.{product_of-within}
+use Rattle.fx_model.specs.Fraction.{zero_ℚ}
+use Rattle.fx_model.specs.Grid.{At, le_bound}
+use Rattle.fx_model.specs.declared.ExprId.{ExprId}
+use Rattle.fx_model.specs.declared.Node.{Node}
+use Rattle.fx_model.specs.declared.Node.TheVariants as node
+use Rattle.dyadic.specs.Order.{bound_trans}
+use Rattle.dyadic.specs.Compared.{BoundLe_out}
+use Rattle.interval.specs.declared.interval.Interval.{Interval}
+use Rattle.interval.specs.Intervals.{range_of}
+use Rattle.interval.specs.Results.{negation_of, sum_of, difference_of, product_of}
+use Rattle.interval.specs.Monotone.{negation_of-within, sum_of-within, difference_of-within}
+use Rattle.interval.specs.Monotone.{product_of-within}
 use Rattle.expr_dag.specs.Shapes.{is_at, is_known, are_known}
 use Rattle.facts.specs.declared.relative.RelativeError.{RelativeError}
 use Rattle.facts.specs.declared.fact.Fact.TheVariants as fact

@@ -3,15 +3,15 @@ use Rattle.std.specs.Prelude.{◌≡◌, ◌&&◌, not, nat_lt, length, Bool, tr
 use Rattle.std.specs.Prelude.{refl}
 use Rattle.std.proofs.Common.{sym, ap, subst, suc}
 use Rattle.std.proofs.lemmas.Bool.{and_parts, and_from}
-use Rattle.expr_dag.specs.fx_model.Grid.{Bound}
-use Rattle.expr_dag.specs.fx_model.Enclosure.{BoundLe}
-use Rattle.expr_dag.specs.fx_model.declared.ExprId.{ExprId}
-use Rattle.expr_dag.specs.fx_model.declared.Node.{Node}
-use Rattle.facts.specs.dyadic.Ends.{bound_of}
-use Rattle.facts.specs.dyadic.Order.{le_bound, bound_trans}
-use Rattle.facts.specs.dyadic.Extremes.{BoundLe-refl}
-use Rattle.facts.specs.dyadic.Compared.{BoundLe_out}
-use Rattle.facts.specs.interval.Intervals.{range_of}
+use Rattle.fx_model.specs.Grid.{Bound, le_bound}
+use Rattle.fx_model.specs.Enclosure.{BoundLe}
+use Rattle.fx_model.specs.declared.ExprId.{ExprId}
+use Rattle.fx_model.specs.declared.Node.{Node}
+use Rattle.dyadic.specs.Ends.{bound_of}
+use Rattle.dyadic.specs.Order.{bound_trans}
+use Rattle.dyadic.specs.Extremes.{BoundLe-refl}
+use Rattle.dyadic.specs.Compared.{BoundLe_out}
+use Rattle.interval.specs.Intervals.{range_of}
 use Rattle.expr_dag.specs.Shapes.{is_known, are_known}
 use Rattle.facts.specs.declared.hint.Need.{Need}
 use Rattle.facts.specs.declared.hint.Need.TheVariants as need

@@ -1,12 +1,11 @@
 -- Rules that conclude VOID alone, numbers 91 and 92 of the list: each row as a function from
 -- premises and a target to its conclusion. What fits no row gives nothing.
 use Rattle.std.specs.Prelude.{◌&&◌, Bool, List, [], ◌∷◌, Option, Some, None}
-use Rattle.expr_dag.specs.fx_model.Fraction.{zero_ℚ}
-use Rattle.expr_dag.specs.fx_model.Grid.{At}
-use Rattle.expr_dag.specs.fx_model.Enclosure.{Range}
-use Rattle.expr_dag.specs.fx_model.declared.Node.{Node}
-use Rattle.facts.specs.dyadic.Order.{le_bound}
-use Rattle.facts.specs.interval.Intervals.{range_of}
+use Rattle.fx_model.specs.Fraction.{zero_ℚ}
+use Rattle.fx_model.specs.Grid.{At, le_bound}
+use Rattle.fx_model.specs.Enclosure.{Range}
+use Rattle.fx_model.specs.declared.Node.{Node}
+use Rattle.interval.specs.Intervals.{range_of}
 use Rattle.expr_dag.specs.Shapes.{is_known, are_known}
 use Rattle.facts.specs.declared.relative.RelativeError.{RelativeError}
 use Rattle.facts.specs.declared.fact.Fact.{Fact}

@@ -2,12 +2,11 @@
 -- a target to its conclusion. What doesn't fit gives nothing.
 use Rattle.std.specs.Prelude.{◌&&◌, not, nat_lt, length, Bool, true, false, List, [], ◌∷◌, Option}
 use Rattle.std.specs.Prelude.{None}
-use Rattle.expr_dag.specs.fx_model.Grid.{Bound}
-use Rattle.expr_dag.specs.fx_model.declared.ExprId.{ExprId}
-use Rattle.expr_dag.specs.fx_model.declared.Node.{Node}
-use Rattle.facts.specs.dyadic.Ends.{bound_of}
-use Rattle.facts.specs.dyadic.Order.{le_bound}
-use Rattle.facts.specs.interval.Intervals.{range_of}
+use Rattle.fx_model.specs.Grid.{Bound, le_bound}
+use Rattle.fx_model.specs.declared.ExprId.{ExprId}
+use Rattle.fx_model.specs.declared.Node.{Node}
+use Rattle.dyadic.specs.Ends.{bound_of}
+use Rattle.interval.specs.Intervals.{range_of}
 use Rattle.expr_dag.specs.Shapes.{is_known, are_known}
 use Rattle.facts.specs.declared.hint.Need.{Need}
 use Rattle.facts.specs.declared.hint.Need.TheVariants as need

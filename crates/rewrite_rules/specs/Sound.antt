@@ -3,22 +3,23 @@
 use Rattle.std.specs.Prelude.{◌≡◌, ◌&&◌, true, List, [], ◌∷◌, Option, Some, None, slice_get, refl}
 use Rattle.std.proofs.Common.{sym, ap, subst, ◌∙◌}
 use Rattle.std.proofs.lemmas.Bool.{and_parts}
-use Rattle.expr_dag.specs.fx_model.Fraction.{Fraction, ◌+ℚ◌, ◌-ℚ◌, ◌*ℚ◌, ◌≤ℚ◌, neg_ℚ, zero_ℚ}
-use Rattle.expr_dag.specs.fx_model.Fraction.{le_trans, le_antisymm}
-use Rattle.expr_dag.specs.fx_model.Grid.{Bound, Below, At, Above}
-use Rattle.expr_dag.specs.fx_model.Enclosure.{IsFrom, IsUpTo, Lies, BoundLe, Negations, Sums}
-use Rattle.expr_dag.specs.fx_model.Enclosure.{Differences, in_enclosure, product_holds}
-use Rattle.expr_dag.specs.fx_model.Expression.{Assignment, IsOrdered, value, node_value, lift₂}
-use Rattle.expr_dag.specs.fx_model.declared.ExprId.{ExprId}
-use Rattle.expr_dag.specs.fx_model.declared.Node.{Node}
-use Rattle.expr_dag.specs.fx_model.declared.Node.TheVariants as node
-use Rattle.facts.specs.dyadic.Order.{le_bound}
-use Rattle.facts.specs.dyadic.Compared.{BoundLe_in}
-use Rattle.facts.specs.interval.declared.interval.Interval.{Interval}
-use Rattle.facts.specs.interval.Intervals.{range_of}
-use Rattle.facts.specs.interval.Results.{negation_of, negation_of-is, sum_of, sum_of-is}
-use Rattle.facts.specs.interval.Results.{difference_of, difference_of-is, product_of, product_of-is}
+use Rattle.fx_model.specs.Fraction.{Fraction, ◌+ℚ◌, ◌-ℚ◌, ◌*ℚ◌, ◌≤ℚ◌, neg_ℚ, zero_ℚ, le_trans}
+use Rattle.fx_model.specs.Fraction.{le_antisymm}
+use Rattle.fx_model.specs.Grid.{Bound, Below, At, Above, le_bound}
+use Rattle.fx_model.specs.Enclosure.{IsFrom, IsUpTo, Lies, BoundLe, Negations, Sums, Differences}
+use Rattle.fx_model.specs.Enclosure.{in_enclosure, product_holds}
+use Rattle.fx_model.specs.Expression.{Assignment, IsOrdered, value, node_value, lift₂}
+use Rattle.fx_model.specs.declared.ExprId.{ExprId}
+use Rattle.fx_model.specs.declared.Node.{Node}
+use Rattle.fx_model.specs.declared.Node.TheVariants as node
+use Rattle.grid_words.specs.FractionLaws.{more-less}
+use Rattle.dyadic.specs.Compared.{BoundLe_in}
+use Rattle.interval.specs.declared.interval.Interval.{Interval}
+use Rattle.interval.specs.Intervals.{range_of}
+use Rattle.interval.specs.Results.{negation_of, negation_of-is, sum_of, sum_of-is, difference_of}
+use Rattle.interval.specs.Results.{difference_of-is, product_of, product_of-is}
 use Rattle.expr_dag.specs.Shapes.{is_at, is_known, node_at-value, are_known}
+use Rattle.expr_dag.specs.Operands.{at_value, lifted_out, lifted_in, lifted_one}
 use Rattle.facts.specs.declared.relative.RelativeError.{RelativeError}
 use Rattle.facts.specs.declared.fact.Fact.{Fact}
 use Rattle.facts.specs.declared.fact.Fact.TheVariants as fact
@@ -28,8 +29,6 @@ use Rattle.facts.specs.Order.{is_same}
 use Rattle.facts.specs.CommonParts.{if-some, expr_same}
 use Rattle.facts.specs.Promises.{IsSound}
 use Rattle.facts.specs.Conclusions.{given}
-use Rattle.facts.specs.grid_words.FractionLaws.{more-less}
-use Rattle.expr_dag.specs.Operands.{at_value, lifted_out, lifted_in, lifted_one}
 use Rattle.facts.specs.Known.{HasValue, one_value, bnd_out, bnd_in, nzr_out, rel_out}
 use Rattle.rewrite_rules.specs.Numbers.{through, against, less_difference, of_sums, of_differences}
 use Rattle.rewrite_rules.specs.Numbers.{of_products, of_negations}

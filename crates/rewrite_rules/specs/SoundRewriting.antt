@@ -5,18 +5,17 @@ use Rattle.std.specs.List.{AllByRecursion}
 use Rattle.std.specs.Option.{IsSomeAnd}
 use Rattle.std.proofs.Common.{sym, subst}
 use Rattle.std.proofs.lemmas.Bool.{and_parts}
-use Rattle.expr_dag.specs.fx_model.Fraction.{Fraction, abs_ℚ, zero_ℚ, lt_by}
-use Rattle.expr_dag.specs.fx_model.Powers.{IsMultiple}
-use Rattle.expr_dag.specs.fx_model.Grid.{Bound, Below, At, Above}
-use Rattle.expr_dag.specs.fx_model.Enclosure.{IsFrom, IsUpTo, Lies, BoundLe, up_to-le, from-le}
-use Rattle.expr_dag.specs.fx_model.Expression.{Assignment, value}
-use Rattle.expr_dag.specs.fx_model.declared.ExprId.{ExprId}
-use Rattle.expr_dag.specs.fx_model.declared.Node.{Node}
-use Rattle.facts.specs.dyadic.Ends.{bound_of}
-use Rattle.facts.specs.dyadic.Order.{le_bound}
-use Rattle.facts.specs.dyadic.Compared.{BoundLe_in, BoundLe_out}
-use Rattle.facts.specs.interval.Intervals.{range_of}
-use Rattle.facts.specs.interval.Members.{between}
+use Rattle.fx_model.specs.Fraction.{Fraction, abs_ℚ, zero_ℚ, lt_by}
+use Rattle.fx_model.specs.Powers.{IsMultiple}
+use Rattle.fx_model.specs.Grid.{Bound, Below, At, Above, le_bound}
+use Rattle.fx_model.specs.Enclosure.{IsFrom, IsUpTo, Lies, BoundLe, up_to-le, from-le}
+use Rattle.fx_model.specs.Expression.{Assignment, value}
+use Rattle.fx_model.specs.declared.ExprId.{ExprId}
+use Rattle.fx_model.specs.declared.Node.{Node}
+use Rattle.dyadic.specs.Ends.{bound_of}
+use Rattle.dyadic.specs.Compared.{BoundLe_in, BoundLe_out}
+use Rattle.interval.specs.Intervals.{range_of}
+use Rattle.interval.specs.Members.{between}
 use Rattle.expr_dag.specs.Shapes.{is_known, are_known}
 use Rattle.facts.specs.declared.hint.Need.{Need}
 use Rattle.facts.specs.declared.hint.Need.TheVariants as need
@@ -30,9 +29,9 @@ use Rattle.facts.specs.Order.{is_same}
 use Rattle.facts.specs.CommonParts.{if-some, expr_same}
 use Rattle.facts.specs.Held.{some-and}
 use Rattle.facts.specs.Conclusions.{given}
+use Rattle.facts.specs.Rows.{IsUnder, IsOver, IsMet}
 use Rattle.rewrite_rules.specs.Rewriting.{is_under, shows, show_needs, show_row, rewritten}
 use Rattle.rewrite_rules.specs.Rewriting.{rewriting_rule}
-use Rattle.facts.specs.Rows.{IsUnder, IsOver, IsMet}
 use Rattle.rewrite_rules.specs.WithRow.{IsSoundWithRow}
 
 -- ---- constraints

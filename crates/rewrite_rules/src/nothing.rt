@@ -1,11 +1,12 @@
 // Premises that contradict each other.
 ghost use Rattle.std.specs.Prelude.{◌≡◌};
-ghost use Rattle.facts.specs.interval.Intervals.{range_of};
+ghost use Rattle.interval.specs.Intervals.{range_of};
 ghost use Rattle.rewrite_rules.specs.Nothing.{is_zero, zero_and_not_rule, void_of};
 ghost use Rattle.rewrite_rules.specs.Nothing.{both_zero_and_not_rule};
 
 use expr_dag::Dag;
-use facts::{Fact, Interval, RelativeError, Slot};
+use facts::{Fact, RelativeError, Slot};
+use interval::Interval;
 
 /// From BND(x, [0, 0]), NZR(x): VOID.
 #[inline(always)]

@@ -2,21 +2,19 @@
 use Rattle.std.specs.Prelude.{◌≡◌, ℤ, pos, Bool, true, false, if◌then◌else◌, refl}
 use Rattle.std.proofs.Common.{arith, sym, subst}
 use Rattle.std.proofs.lemmas.Int.{ints}
-use Rattle.interval.specs.fx_model.Fraction.{Fraction, ◌+ℚ◌, ◌≤ℚ◌, ◌<ℚ◌, zero_ℚ, le_trans, lt_le}
-use Rattle.interval.specs.fx_model.Fraction.{le_lt_trans}
-use Rattle.interval.specs.fx_model.Powers.{whole, whole-add, whole-le, whole-lt, zero-whole}
-use Rattle.interval.specs.fx_model.Powers.{floor_low, floor_high, two_to-positive}
-use Rattle.interval.specs.fx_model.Rounded.{floor, ceiling, half, near_low, near_high, is_even}
-use Rattle.interval.specs.fx_model.Rounded.{is_positive_or_zero}
-use Rattle.interval.specs.fx_model.declared.Direction.{Direction}
-use Rattle.interval.specs.fx_model.declared.Direction.TheVariants.{Zr, Aw, Dn, Up, Od, Ne, No, Nz}
-use Rattle.interval.specs.fx_model.declared.Direction.TheVariants.{Na, Nd, Nu}
-use Rattle.rounding.specs.Sums.{add-zero, add-lt}
+use Rattle.fx_model.specs.Fraction.{Fraction, ◌+ℚ◌, ◌≤ℚ◌, ◌<ℚ◌, zero_ℚ, le_trans, lt_le}
+use Rattle.fx_model.specs.Fraction.{le_lt_trans, add-zero, add-lt}
+use Rattle.fx_model.specs.Powers.{whole, whole-add, whole-le, whole-lt, zero-whole, floor_low}
+use Rattle.fx_model.specs.Powers.{floor_high, two_to-positive}
+use Rattle.fx_model.specs.Rounded.{floor, ceiling, half, near_low, near_high, is_even}
+use Rattle.fx_model.specs.Rounded.{is_positive_or_zero, whole_for}
+use Rattle.fx_model.specs.declared.Direction.{Direction}
+use Rattle.fx_model.specs.declared.Direction.TheVariants.{Zr, Aw, Dn, Up, Od, Ne, No, Nz, Na, Nd}
+use Rattle.fx_model.specs.declared.Direction.TheVariants.{Nu}
 use Rattle.rounding.specs.Floor.{floor-whole, ceiling-whole, ceiling_high, ceiling_low}
 use Rattle.rounding.specs.Floor.{floor_from_zero, ceiling_to_zero}
 use Rattle.rounding.specs.Nearest.{halves, near_low-whole, near_high-whole, near_low_low}
 use Rattle.rounding.specs.Nearest.{near_low_below, near_high_high, near_high_above}
-use Rattle.interval.specs.fx_model.Rounded.{whole_for}
 
 -- ---- what holds of both holds of the one that a test takes
 taken : (P : ℤ → Type 0) (b : Bool) (v w : ℤ) → P v → P w → P (if b then v else w)

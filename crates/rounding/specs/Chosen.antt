@@ -1,25 +1,20 @@
 -- The whole number that a direction gives, from the whole numbers next to a number.
-use Rattle.std.specs.Prelude.{◌≡◌, ℤ, pos, ◌≤ℤ◌, Bool, true, false, if◌then◌else◌, refl}
+use lib.IntN.{neg_ℤ}
+use Rattle.std.specs.Prelude.{◌≡◌, ℤ, pos, ◌≤ℤ◌, Bool, true, false, if◌then◌else◌, refl, not, ◌<ℤ◌}
+use Rattle.std.specs.Prelude.{ℕ, ◌+ℤ◌}
 use Rattle.std.specs.Int.RustNames.{int_lt}
-use Rattle.std.specs.Prelude.{not}
 use Rattle.std.proofs.Common.{arith, sym, ap, ◌∙◌, subst}
 use Rattle.std.proofs.lemmas.Int.{ints}
-use Rattle.interval.specs.fx_model.Fraction.{Fraction}
-use Rattle.interval.specs.fx_model.Rounded.{floor, ceiling, near_low, near_high, is_even}
-use Rattle.interval.specs.fx_model.Rounded.{is_positive_or_zero}
-use Rattle.interval.specs.fx_model.declared.Direction.{Direction}
-use Rattle.interval.specs.fx_model.declared.Direction.TheVariants.{Zr, Aw, Dn, Up, Od, Ne, No, Nz}
-use Rattle.interval.specs.fx_model.declared.Direction.TheVariants.{Na, Nd, Nu}
+use Rattle.fx_model.specs.Fraction.{Fraction, ◌<ℚ◌, le_lt_trans}
+use Rattle.fx_model.specs.Rounded.{floor, ceiling, near_low, near_high, is_even}
+use Rattle.fx_model.specs.Rounded.{is_positive_or_zero, whole_for, rounded}
+use Rattle.fx_model.specs.declared.Direction.{Direction}
+use Rattle.fx_model.specs.declared.Direction.TheVariants.{Zr, Aw, Dn, Up, Od, Ne, No, Nz, Na, Nd}
+use Rattle.fx_model.specs.declared.Direction.TheVariants.{Nu}
+use Rattle.fx_model.specs.Powers.{whole, zero-whole, floor_low, scaled}
 use Rattle.rounding.specs.declared.neighbours.Neighbours.{Neighbours}
-use Rattle.interval.specs.fx_model.Fraction.{◌<ℚ◌, le_lt_trans}
-use Rattle.interval.specs.fx_model.Powers.{whole, zero-whole, floor_low}
-use Rattle.std.specs.Prelude.{◌<ℤ◌}
 use Rattle.rounding.specs.Floor.{floor_from_zero, whole-lt_out}
-use lib.IntN.{neg_ℤ}
-use Rattle.std.specs.Prelude.{ℕ, ◌+ℤ◌}
-use Rattle.interval.specs.fx_model.Powers.{scaled}
 use Rattle.rounding.specs.Rounded.{units, units-exact, rounded-is}
-use Rattle.interval.specs.fx_model.Rounded.{whole_for, rounded}
 
 -- The whole numbers next to s.
 pub record AreNeighbours (n : Neighbours) (s : Fraction) : Type 0 where

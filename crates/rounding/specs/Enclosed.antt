@@ -1,16 +1,16 @@
 -- The best intervals of the possible errors.
-use Rattle.std.specs.Prelude.{◌≡◌, ℤ, ◌<ℤ◌, Option, Some, None, true, false}
-use Rattle.std.specs.Prelude.{if◌then◌else◌, refl}
+use Rattle.std.specs.Prelude.{◌≡◌, ℤ, ◌<ℤ◌, Option, Some, None, true, false, if◌then◌else◌, refl}
 use Rattle.std.specs.Int.RustNames.{int_lt}
 use Rattle.std.proofs.Common.{arith, sym, ap, ◌∙◌, subst}
 use Rattle.std.proofs.lemmas.Int.{ints}
 use Rattle.std.proofs.lemmas.Bool.{not-true, not-false}
-use Rattle.interval.specs.fx_model.Fraction.{Fraction, ◌-ℚ◌, ◌≤ℚ◌, neg_ℚ, zero_ℚ, lt_le, le_refl}
-use Rattle.interval.specs.fx_model.Fraction.{le_trans, neg_down}
-use Rattle.interval.specs.fx_model.Powers.{two_to, two_to-positive}
-use Rattle.interval.specs.fx_model.Grid.{At, IsUp, IsDown-neg}
-use Rattle.interval.specs.fx_model.Enclosure.{Range, Lies, IsEnclosure}
-use Rattle.interval.specs.fx_model.declared.Direction.{Direction}
+use Rattle.fx_model.specs.Fraction.{Fraction, ◌-ℚ◌, ◌≤ℚ◌, neg_ℚ, zero_ℚ, lt_le, le_refl, le_trans}
+use Rattle.fx_model.specs.Fraction.{neg_down}
+use Rattle.fx_model.specs.Powers.{two_to, two_to-positive}
+use Rattle.fx_model.specs.Grid.{At, IsUp, IsDown-neg}
+use Rattle.fx_model.specs.Enclosure.{Range, Lies, IsEnclosure}
+use Rattle.fx_model.specs.declared.Direction.{Direction}
+use Rattle.grid_words.specs.Products.{closed}
 use Rattle.rounding.specs.declared.sign.Sign.{Sign}
 use Rattle.rounding.specs.declared.bounds.Span.{Span}
 use Rattle.rounding.specs.declared.bounds.Span.TheVariants.{Nowhere, Leftward, Rightward, Sideward}
@@ -20,7 +20,6 @@ use Rattle.rounding.specs.Places.{two_to-le, less}
 use Rattle.rounding.specs.Errors.{half_of, largest_error, keeps, error_range, signed_errors}
 use Rattle.rounding.specs.Errors.{nowhere, IsPossible}
 use Rattle.rounding.specs.Spans.{spanned}
-use Rattle.interval.specs.grid_words.Products.{closed}
 use Rattle.rounding.specs.Outward.{closed_is, down_grid, up_grid, same_members}
 use Rattle.rounding.specs.Largest.{zero_on_grid}
 use Rattle.rounding.specs.Meet.{possible_by_cases}

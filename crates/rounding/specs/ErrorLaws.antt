@@ -1,18 +1,17 @@
 -- The errors of roundings are possible ones.
+use lib.IntN.{neg_ℤ}
 use Rattle.std.specs.Prelude.{◌≡◌, ℤ, Option, Some, None, Bool, true, false, if◌then◌else◌, refl}
 use Rattle.std.specs.Int.RustNames.{int_lt}
 use Rattle.std.proofs.Common.{sym, ap, ◌∙◌, subst}
-use lib.IntN.{neg_ℤ}
-use Rattle.interval.specs.fx_model.Fraction.{Fraction, ◌-ℚ◌, ◌≤ℚ◌, neg_ℚ, zero_ℚ, le_refl, lt_le}
-use Rattle.interval.specs.fx_model.Fraction.{zero-mul, add-neg}
-use Rattle.interval.specs.fx_model.Powers.{two_to, two_to-positive}
-use Rattle.interval.specs.fx_model.Enclosure.{Lies}
-use Rattle.interval.specs.fx_model.declared.Direction.{Direction}
-use Rattle.interval.specs.fx_model.declared.Direction.TheVariants.{Zr, Aw, Dn, Up, Od, Ne, No, Nz}
-use Rattle.interval.specs.fx_model.declared.Direction.TheVariants.{Na, Nd, Nu}
+use Rattle.fx_model.specs.Fraction.{Fraction, ◌-ℚ◌, ◌≤ℚ◌, neg_ℚ, zero_ℚ, le_refl, lt_le, zero-mul}
+use Rattle.fx_model.specs.Fraction.{add-neg, times-le}
+use Rattle.fx_model.specs.Powers.{two_to, two_to-positive}
+use Rattle.fx_model.specs.Enclosure.{Lies}
+use Rattle.fx_model.specs.declared.Direction.{Direction}
+use Rattle.fx_model.specs.declared.Direction.TheVariants.{Zr, Aw, Dn, Up, Od, Ne, No, Nz, Na, Nd}
+use Rattle.fx_model.specs.declared.Direction.TheVariants.{Nu}
 use Rattle.rounding.specs.declared.sign.Sign.{Sign}
 use Rattle.rounding.specs.declared.sign.Sign.TheVariants.{Unknown, NotNegative, NotPositive, Zero}
-use Rattle.rounding.specs.Sums.{times-le}
 use Rattle.rounding.specs.Beside.{dn_below, up_above, zr_below, zr_above, aw_below, aw_above}
 use Rattle.rounding.specs.Rounded.{units, rounded-finer}
 use Rattle.rounding.specs.Scale.{error_of, error_below, error_above, near_at_most, near_at_least}

@@ -3,13 +3,13 @@
 use Rattle.std.specs.Prelude.{◌≡◌, ℤ, negsuc, ◌+ℤ◌, Option, Some, None, ⊤, if◌then◌else◌, Bool}
 use Rattle.std.specs.Prelude.{false, not}
 use Rattle.std.specs.Int.RustNames.{int_lt}
-use Rattle.interval.specs.fx_model.Fraction.{Fraction, ◌-ℚ◌, ◌≤ℚ◌, neg_ℚ, zero_ℚ}
-use Rattle.interval.specs.fx_model.Powers.{two_to, IsMultiple}
-use Rattle.interval.specs.fx_model.Grid.{At}
-use Rattle.interval.specs.fx_model.Enclosure.{Range, Lies}
-use Rattle.interval.specs.fx_model.declared.Direction.{Direction}
-use Rattle.interval.specs.fx_model.declared.Direction.TheVariants.{Zr, Aw, Dn, Up, Od, Ne, No, Nz}
-use Rattle.interval.specs.fx_model.declared.Direction.TheVariants.{Na, Nd, Nu}
+use Rattle.fx_model.specs.Fraction.{Fraction, ◌-ℚ◌, ◌≤ℚ◌, neg_ℚ, zero_ℚ}
+use Rattle.fx_model.specs.Powers.{two_to, IsMultiple}
+use Rattle.fx_model.specs.Grid.{At}
+use Rattle.fx_model.specs.Enclosure.{Range, Lies}
+use Rattle.fx_model.specs.declared.Direction.{Direction}
+use Rattle.fx_model.specs.declared.Direction.TheVariants.{Zr, Aw, Dn, Up, Od, Ne, No, Nz, Na, Nd}
+use Rattle.fx_model.specs.declared.Direction.TheVariants.{Nu}
 use Rattle.rounding.specs.declared.sign.Sign.{Sign}
 use Rattle.rounding.specs.declared.sign.Sign.TheVariants.{Unknown, NotNegative, NotPositive, Zero}
 

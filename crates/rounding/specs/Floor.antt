@@ -1,17 +1,16 @@
 -- Floors and ceilings: which whole numbers lie below and above them, and what they are of sums.
+use lib.IntN.{neg_ℤ}
 use Rattle.std.specs.Prelude.{◌≡◌, ℤ, pos, negsuc, ◌+ℤ◌, ◌≤ℤ◌, ◌<ℤ◌}
 use Rattle.std.proofs.Common.{arith, sym, ap, ◌∙◌, subst}
 use Rattle.std.proofs.lemmas.Int.{ints, by_lt_z}
-use lib.IntN.{neg_ℤ}
-use Rattle.interval.specs.fx_model.Fraction.{Fraction, ◌+ℚ◌, neg_ℚ, ◌≤ℚ◌, ◌<ℚ◌, zero_ℚ, le_refl}
-use Rattle.interval.specs.fx_model.Fraction.{le_trans, lt_not, lt_le, lt_le_trans, le_lt_trans}
-use Rattle.interval.specs.fx_model.Fraction.{neg-le, neg-neg, neg-add}
-use Rattle.interval.specs.fx_model.Powers.{whole, whole-add, whole-neg, whole-le, whole-le_out}
-use Rattle.interval.specs.fx_model.Powers.{whole-lt, zero-whole, floor_low, floor_high}
-use Rattle.interval.specs.fx_model.Powers.{floor_unique}
-use Rattle.interval.specs.fx_model.Rounded.{floor, ceiling}
-use Rattle.rounding.specs.Sums.{neg-lt, plus-le, plus-lt}
-use Rattle.interval.specs.fx_model.Grid.{neg_over}
+use Rattle.fx_model.specs.Fraction.{Fraction, ◌+ℚ◌, neg_ℚ, ◌≤ℚ◌, ◌<ℚ◌, zero_ℚ, le_refl, le_trans}
+use Rattle.fx_model.specs.Fraction.{lt_not, lt_le, lt_le_trans, le_lt_trans, neg-le, neg-neg}
+use Rattle.fx_model.specs.Fraction.{neg-add, neg-lt}
+use Rattle.fx_model.specs.Powers.{whole, whole-add, whole-neg, whole-le, whole-le_out, whole-lt}
+use Rattle.fx_model.specs.Powers.{zero-whole, floor_low, floor_high, floor_unique}
+use Rattle.fx_model.specs.Rounded.{floor, ceiling}
+use Rattle.fx_model.specs.Grid.{neg_over}
+use Rattle.rounding.specs.Sums.{plus-le, plus-lt}
 
 pub whole-lt_out : (a b : ℤ) → whole a <ℚ whole b → a <ℤ b
 whole-lt_out a b h =

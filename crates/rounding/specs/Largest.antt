@@ -1,18 +1,18 @@
 -- The least grid numbers at or above half a unit and the largest error, and the enclosures of
 -- errors that they give.
+use lib.IntN.{neg_ℤ}
 use Rattle.std.specs.Prelude.{◌≡◌, ◌⊎◌, ℕ, ℤ, pos, negsuc, ◌+ℤ◌, ◌*ℤ◌, ◌≤ℤ◌, ◌<ℤ◌, ◌≤◌, ◌^◌, ◌+◌}
 use Rattle.std.specs.Prelude.{◌-◌, ◌*◌, refl}
 use Rattle.std.proofs.Common.{arith, sym, ap, ◌∙◌, subst, inl, inr, ⊎_elim, lit≤}
 use Rattle.std.proofs.lemmas.Int.{ints, by_lt_z}
 use Rattle.std.proofs.lemmas.Nat.{pow_pos, pow-add}
 use Rattle.std.proofs.Math.Nat.{pow-le-pow_right}
-use lib.IntN.{neg_ℤ}
-use Rattle.interval.specs.fx_model.Fraction.{Fraction, ◌+ℚ◌, ◌-ℚ◌, ◌<ℚ◌, neg_ℚ, zero_ℚ, neg_zero}
-use Rattle.interval.specs.fx_model.Powers.{two_to, scaled, scaled-lt, scaled-shift, scaled-zero}
-use Rattle.interval.specs.fx_model.Powers.{two_to-positive}
-use Rattle.interval.specs.fx_model.Grid.{At, IsOnGrid, IsUp}
-use Rattle.interval.specs.fx_model.Cut.{gap_le, on_grid, up_is}
-use Rattle.rounding.specs.Sums.{add-zero, add-lt, neg-lt}
+use Rattle.fx_model.specs.Fraction.{Fraction, ◌+ℚ◌, ◌-ℚ◌, ◌<ℚ◌, neg_ℚ, zero_ℚ, neg_zero, add-zero}
+use Rattle.fx_model.specs.Fraction.{add-lt, neg-lt}
+use Rattle.fx_model.specs.Powers.{two_to, scaled, scaled-lt, scaled-shift, scaled-zero}
+use Rattle.fx_model.specs.Powers.{two_to-positive}
+use Rattle.fx_model.specs.Grid.{At, IsOnGrid, IsUp}
+use Rattle.fx_model.specs.Cut.{gap_le, on_grid, up_is}
 use Rattle.rounding.specs.Places.{one_scaled, scaled-sub}
 use Rattle.rounding.specs.Errors.{half_of}
 use Rattle.rounding.specs.Outward.{up_grid}

@@ -1,8 +1,3 @@
--- What callers name of the crates below.
-pub use Rattle.interval.specs.dyadic as dyadic
-pub use Rattle.interval.specs.fx_model as fx_model
-pub use Rattle.interval.specs as interval
-pub use Rattle.interval.specs.literal as literal
 pub mod Sums
 pub mod Floor
 pub mod Nearest

@@ -2,13 +2,13 @@
 use Rattle.std.specs.Prelude.{◌≡◌, ◌↔◌, ℤ, refl, Option, Some, None, Bool, true, false}
 use Rattle.std.specs.Prelude.{if◌then◌else◌}
 use Rattle.std.specs.Int.RustNames.{int_lt}
-use Rattle.interval.specs.fx_model.Fraction.{Fraction, ◌-ℚ◌, ◌≤ℚ◌, neg_ℚ, zero_ℚ, le_trans, lt_le}
-use Rattle.interval.specs.fx_model.Fraction.{neg-le, neg_down}
-use Rattle.interval.specs.fx_model.Powers.{two_to, two_to-positive}
-use Rattle.interval.specs.fx_model.Enclosure.{Lies}
-use Rattle.interval.specs.fx_model.declared.Direction.{Direction}
-use Rattle.interval.specs.fx_model.declared.Direction.TheVariants.{Zr, Aw, Dn, Up, Od, Ne, No, Nz}
-use Rattle.interval.specs.fx_model.declared.Direction.TheVariants.{Na, Nd, Nu}
+use Rattle.fx_model.specs.Fraction.{Fraction, ◌-ℚ◌, ◌≤ℚ◌, neg_ℚ, zero_ℚ, le_trans, lt_le, neg-le}
+use Rattle.fx_model.specs.Fraction.{neg_down}
+use Rattle.fx_model.specs.Powers.{two_to, two_to-positive}
+use Rattle.fx_model.specs.Enclosure.{Lies}
+use Rattle.fx_model.specs.declared.Direction.{Direction}
+use Rattle.fx_model.specs.declared.Direction.TheVariants.{Zr, Aw, Dn, Up, Od, Ne, No, Nz, Na, Nd}
+use Rattle.fx_model.specs.declared.Direction.TheVariants.{Nu}
 use Rattle.rounding.specs.declared.sign.Sign.{Sign}
 use Rattle.rounding.specs.declared.sign.Sign.TheVariants.{Unknown, NotNegative, NotPositive, Zero}
 use Rattle.rounding.specs.Sums.{sub-le, sub-from}

@@ -2,17 +2,16 @@
 use Rattle.std.specs.Prelude.{◌≡◌, ℤ, pos, ◌+ℤ◌, ◌≤ℤ◌, Bool, true, false, if◌then◌else◌, refl}
 use Rattle.std.proofs.Common.{arith, sym, ap, ◌∙◌}
 use Rattle.std.proofs.lemmas.Int.{ints, by_lt_z}
-use Rattle.interval.specs.fx_model.Fraction.{Fraction, ◌≤ℚ◌, zero_ℚ, le_total, le_trans}
-use Rattle.interval.specs.fx_model.Rounded.{floor, ceiling, near_low, near_high, is_even}
-use Rattle.interval.specs.fx_model.Rounded.{is_positive_or_zero}
-use Rattle.interval.specs.fx_model.declared.Direction.{Direction}
-use Rattle.interval.specs.fx_model.declared.Direction.TheVariants.{Zr, Aw, Dn, Up, Od, Ne, No, Nz}
-use Rattle.interval.specs.fx_model.declared.Direction.TheVariants.{Na, Nd, Nu}
+use Rattle.fx_model.specs.Fraction.{Fraction, ◌≤ℚ◌, zero_ℚ, le_total, le_trans}
+use Rattle.fx_model.specs.Rounded.{floor, ceiling, near_low, near_high, is_even}
+use Rattle.fx_model.specs.Rounded.{is_positive_or_zero, whole_for}
+use Rattle.fx_model.specs.declared.Direction.{Direction}
+use Rattle.fx_model.specs.declared.Direction.TheVariants.{Zr, Aw, Dn, Up, Od, Ne, No, Nz, Na, Nd}
+use Rattle.fx_model.specs.declared.Direction.TheVariants.{Nu}
 use Rattle.rounding.specs.Floor.{floor-le, ceiling-le, floor_ceiling, ceiling_floor}
 use Rattle.rounding.specs.Floor.{floor_from_zero, ceiling_to_zero}
 use Rattle.rounding.specs.Nearest.{near_low_high, near_high_low, near_low-le, near_high-le}
 use Rattle.rounding.specs.Nearest.{near_low_from_zero, near_high_to_zero}
-use Rattle.interval.specs.fx_model.Rounded.{whole_for}
 
 -- ---- two whole numbers next to each other, of which a test takes one
 -- one below another is at most a whole number below it

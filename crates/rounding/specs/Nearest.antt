@@ -1,14 +1,14 @@
 -- The nearest whole numbers: the lower and the upper one at a tie, and how far they are off.
+use mathlib.Core.Quot.{sound}
 use Rattle.std.specs.Prelude.{◌≡◌, ℤ, pos, negsuc, ◌+ℤ◌, ◌≤ℤ◌, refl}
 use Rattle.std.proofs.Common.{arith, sym, ap, ◌∙◌, subst, lit<}
 use Rattle.std.proofs.lemmas.Int.{ints}
-use mathlib.Core.Quot.{sound}
-use Rattle.interval.specs.fx_model.Fraction.{Same, Fraction, ◌+ℚ◌, ◌-ℚ◌, neg_ℚ, ◌≤ℚ◌, ◌<ℚ◌, zero_ℚ}
-use Rattle.interval.specs.fx_model.Fraction.{one_ℚ, add_ratio, add-mk, floor-mk, add_assoc}
-use Rattle.interval.specs.fx_model.Fraction.{add_comm, neg-neg, sub-add}
-use Rattle.interval.specs.fx_model.Powers.{whole, whole-add, two_to-mk, two_to_ratio, zero-whole}
-use Rattle.interval.specs.fx_model.Powers.{one-whole, floor_low, floor_high}
-use Rattle.interval.specs.fx_model.Rounded.{floor, ceiling, half, near_low, near_high}
+use Rattle.fx_model.specs.Fraction.{Same, Fraction, ◌+ℚ◌, ◌-ℚ◌, neg_ℚ, ◌≤ℚ◌, ◌<ℚ◌, zero_ℚ, one_ℚ}
+use Rattle.fx_model.specs.Fraction.{add_ratio, add-mk, floor-mk, add_assoc, add_comm, neg-neg}
+use Rattle.fx_model.specs.Fraction.{sub-add}
+use Rattle.fx_model.specs.Powers.{whole, whole-add, two_to-mk, two_to_ratio, zero-whole, one-whole}
+use Rattle.fx_model.specs.Powers.{floor_low, floor_high}
+use Rattle.fx_model.specs.Rounded.{floor, ceiling, half, near_low, near_high}
 use Rattle.rounding.specs.Sums.{plus-le, plus-lt_out}
 use Rattle.rounding.specs.Floor.{floor-le, floor-plus, ceiling-le, ceiling-plus, floor_ceiling}
 use Rattle.rounding.specs.Floor.{ceiling_floor, ceiling_high, ceiling_low}

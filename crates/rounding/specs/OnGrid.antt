@@ -1,16 +1,16 @@
 -- A grid number rounds to a grid number.
+use lib.IntN.{neg_ℤ}
 use Rattle.std.specs.Prelude.{◌≡◌, ℕ, ℤ, pos, negsuc, ◌+ℤ◌, ◌*ℤ◌, ◌≤ℤ◌, ◌<ℤ◌, ◌^◌, ◌+◌, ◌*◌, ◌≤◌}
 use Rattle.std.specs.Prelude.{refl}
 use Rattle.std.proofs.Common.{arith, sym, subst}
 use Rattle.std.proofs.lemmas.Int.{ints, by_lt_z}
 use Rattle.std.proofs.lemmas.Nat.{pow_pos, pow-add}
-use lib.IntN.{neg_ℤ}
-use Rattle.interval.specs.fx_model.Fraction.{Fraction, ◌≤ℚ◌}
-use Rattle.interval.specs.fx_model.Powers.{scaled, scaled-le, scaled-le_out, scaled-shift}
-use Rattle.interval.specs.fx_model.Grid.{IsOnGrid}
-use Rattle.interval.specs.fx_model.Cut.{gap_le}
-use Rattle.interval.specs.fx_model.declared.Direction.{Direction}
-use Rattle.interval.specs.fx_model.Rounded.{whole_for, rounded}
+use Rattle.fx_model.specs.Fraction.{Fraction, ◌≤ℚ◌}
+use Rattle.fx_model.specs.Powers.{scaled, scaled-le, scaled-le_out, scaled-shift}
+use Rattle.fx_model.specs.Grid.{IsOnGrid}
+use Rattle.fx_model.specs.Cut.{gap_le}
+use Rattle.fx_model.specs.declared.Direction.{Direction}
+use Rattle.fx_model.specs.Rounded.{whole_for, rounded}
 use Rattle.rounding.specs.Rounded.{units, rounded-le, rounded-scaled, rounded-finer}
 
 -- half of the mantissas

@@ -1,11 +1,11 @@
 -- The best interval of the fractions between two others, and of a set that has the same members as
 -- another.
 use Rattle.std.specs.Prelude.{◌↔◌}
-use Rattle.interval.specs.fx_model.Fraction.{Fraction, ◌≤ℚ◌, le_refl}
-use Rattle.interval.specs.fx_model.Grid.{Bound, Below, At, Above, IsOnGrid, IsDown, IsUp}
-use Rattle.interval.specs.fx_model.Enclosure.{Range, Lies, IsInfimum, IsSupremum, IsEnclosure}
-use Rattle.interval.specs.fx_model.Enclosure.{infimum_at, supremum_at}
-use Rattle.interval.specs.grid_words.Products.{closed}
+use Rattle.fx_model.specs.Fraction.{Fraction, ◌≤ℚ◌, le_refl}
+use Rattle.fx_model.specs.Grid.{Bound, Below, At, Above, IsOnGrid, IsDown, IsUp}
+use Rattle.fx_model.specs.Enclosure.{Range, Lies, IsInfimum, IsSupremum, IsEnclosure, infimum_at}
+use Rattle.fx_model.specs.Enclosure.{supremum_at}
+use Rattle.grid_words.specs.Products.{closed}
 
 pub closed_is : (a b g h : Fraction) → a ≤ℚ b → IsDown a (At g) → IsUp b (At h)
     → IsEnclosure (Lies (closed a b)) (closed g h)

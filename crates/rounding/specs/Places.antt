@@ -1,23 +1,22 @@
 -- The error of rounding a multiple of a power of two is such a multiple, and so it stays that far
 -- below a unit.
+use lib.IntN.{neg_ℤ}
 use Rattle.std.specs.Prelude.{◌≡◌, ℕ, ℤ, pos, ◌+ℤ◌, ◌*ℤ◌, ◌≤ℤ◌, ◌<ℤ◌, ◌^◌, true, false}
 use Rattle.std.specs.Int.RustNames.{int_lt}
 use Rattle.std.proofs.Common.{arith, sym, ap, ◌∙◌, subst}
 use Rattle.std.proofs.lemmas.Int.{ints}
-use lib.IntN.{neg_ℤ}
-use Rattle.interval.specs.fx_model.Fraction.{Fraction, ◌+ℚ◌, ◌-ℚ◌, ◌*ℚ◌, ◌≤ℚ◌, ◌<ℚ◌, neg_ℚ, neg-mul}
-use Rattle.interval.specs.fx_model.Fraction.{neg-neg}
-use Rattle.interval.specs.fx_model.Powers.{whole, two_to, scaled, IsMultiple, whole-add, whole-neg}
-use Rattle.interval.specs.fx_model.Powers.{scaled-le, scaled-lt_out}
 use Rattle.std.proofs.lemmas.Nat.{pow_pos}
-use Rattle.interval.specs.fx_model.Cut.{gap_le}
-use Rattle.interval.specs.fx_model.Powers.{scaled-shift}
-use Rattle.interval.specs.fx_model.declared.Direction.{Direction}
-use Rattle.rounding.specs.Sums.{neg-lt, neg-le_left, add-mul}
-use Rattle.interval.specs.fx_model.Rounded.{rounded}
+use Rattle.fx_model.specs.Fraction.{Fraction, ◌+ℚ◌, ◌-ℚ◌, ◌*ℚ◌, ◌≤ℚ◌, ◌<ℚ◌, neg_ℚ, neg-mul, neg-neg}
+use Rattle.fx_model.specs.Fraction.{neg-lt, add-mul}
+use Rattle.fx_model.specs.Powers.{whole, two_to, scaled, IsMultiple, whole-add, whole-neg}
+use Rattle.fx_model.specs.Powers.{scaled-le, scaled-lt_out, scaled-shift}
+use Rattle.fx_model.specs.Cut.{gap_le}
+use Rattle.fx_model.specs.declared.Direction.{Direction}
+use Rattle.fx_model.specs.Rounded.{rounded}
+use Rattle.fx_model.specs.Grid.{multiple-neg}
+use Rattle.rounding.specs.Sums.{neg-le_left}
 use Rattle.rounding.specs.Rounded.{whole_one-mul, rounded_multiple, multiple_of_less}
 use Rattle.rounding.specs.Scale.{error_of, error_below, error_above}
-use Rattle.interval.specs.fx_model.Grid.{multiple-neg}
 
 -- ---- by place
 pub scaled-sub : (a b k : ℤ) → scaled a k -ℚ scaled b k ≡ scaled (a +ℤ neg_ℤ b) k

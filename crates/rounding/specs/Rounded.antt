@@ -1,16 +1,14 @@
 -- Rounded numbers: monotone, multiples, and multiples are left as they are.
+use lib.IntN.{neg_ℤ}
 use Rattle.std.specs.Prelude.{◌≡◌, ℤ, pos, ◌+ℤ◌, ◌*ℤ◌, ◌≤ℤ◌, ◌^◌, refl}
 use Rattle.std.proofs.Common.{arith, sym, ap, ◌∙◌}
 use Rattle.std.proofs.lemmas.Int.{ints}
-use lib.IntN.{neg_ℤ}
-use Rattle.interval.specs.fx_model.Fraction.{Fraction, ◌*ℚ◌, ◌≤ℚ◌, mul_assoc, mul_comm, one-mul}
-use Rattle.interval.specs.fx_model.Powers.{whole, two_to, scaled, IsMultiple, two_to-add}
-use Rattle.interval.specs.fx_model.Powers.{two_to-pos, two_to-positive, one-whole, scaled-le}
-use Rattle.interval.specs.fx_model.Powers.{scaled-shift}
-use Rattle.interval.specs.fx_model.Cut.{gap_le}
-use Rattle.interval.specs.fx_model.declared.Direction.{Direction}
-use Rattle.rounding.specs.Sums.{times-le}
-use Rattle.interval.specs.fx_model.Rounded.{whole_for, rounded}
+use Rattle.fx_model.specs.Fraction.{Fraction, ◌*ℚ◌, ◌≤ℚ◌, mul_assoc, mul_comm, one-mul, times-le}
+use Rattle.fx_model.specs.Powers.{whole, two_to, scaled, IsMultiple, two_to-add, two_to-pos}
+use Rattle.fx_model.specs.Powers.{two_to-positive, one-whole, scaled-le, scaled-shift}
+use Rattle.fx_model.specs.Cut.{gap_le}
+use Rattle.fx_model.specs.declared.Direction.{Direction}
+use Rattle.fx_model.specs.Rounded.{whole_for, rounded}
 use Rattle.rounding.specs.Monotone.{whole_for-le}
 use Rattle.rounding.specs.Beside.{whole_for-whole}
 

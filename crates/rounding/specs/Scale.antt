@@ -2,14 +2,12 @@
 use Rattle.std.specs.Prelude.{◌≡◌, ℤ, pos, negsuc, ◌+ℤ◌, true}
 use Rattle.std.proofs.Common.{arith, sym, ap, ◌∙◌, subst}
 use Rattle.std.proofs.lemmas.Int.{ints}
-use Rattle.interval.specs.fx_model.Fraction.{Fraction, ◌+ℚ◌, ◌-ℚ◌, ◌*ℚ◌, ◌≤ℚ◌, ◌<ℚ◌, neg_ℚ, zero_ℚ}
-use Rattle.interval.specs.fx_model.Fraction.{zero-mul, neg_zero}
-use Rattle.interval.specs.fx_model.Powers.{whole, two_to, two_to-add, two_to-positive}
-use Rattle.interval.specs.fx_model.Rounded.{half}
-use Rattle.interval.specs.fx_model.declared.Direction.{Direction}
-use Rattle.rounding.specs.Sums.{add-zero, sub-at_most, sub-at_least, sub-below, sub-above, times-le}
-use Rattle.rounding.specs.Sums.{times-lt, add-mul}
-use Rattle.interval.specs.fx_model.Rounded.{whole_for, rounded}
+use Rattle.fx_model.specs.Fraction.{Fraction, ◌+ℚ◌, ◌-ℚ◌, ◌*ℚ◌, ◌≤ℚ◌, ◌<ℚ◌, neg_ℚ, zero_ℚ, zero-mul}
+use Rattle.fx_model.specs.Fraction.{neg_zero, add-zero, times-le, times-lt, add-mul}
+use Rattle.fx_model.specs.Powers.{whole, two_to, two_to-add, two_to-positive}
+use Rattle.fx_model.specs.Rounded.{half, whole_for, rounded}
+use Rattle.fx_model.specs.declared.Direction.{Direction}
+use Rattle.rounding.specs.Sums.{sub-at_most, sub-at_least, sub-below, sub-above}
 use Rattle.rounding.specs.Beside.{whole_for_beside, whole_for_near, is_nearest}
 use Rattle.rounding.specs.Rounded.{units, units-times, whole_one-mul}
 use Rattle.rounding.specs.Errors.{half_of}

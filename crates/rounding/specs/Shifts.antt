@@ -1,4 +1,5 @@
 -- Shifts to the right are floors, and the nearest whole number is a floor of a floor.
+use lib.IntN.{neg_ℤ}
 use Rattle.std.specs.Prelude.{◌≡◌, ℕ, ℤ, pos, negsuc, ◌+ℤ◌, ◌*ℤ◌, ◌≤ℤ◌, ◌<ℤ◌, ◌<◌, ◌≤◌, ◌^◌, ◌*◌}
 use Rattle.std.specs.Prelude.{◌+◌, ◌/◌}
 use Rattle.std.specs.Int.Signed.{shr_z}
@@ -8,17 +9,15 @@ use Rattle.std.proofs.lemmas.Int.{ints}
 use Rattle.std.proofs.lemmas.Nat.{pow_pos}
 use Rattle.std.proofs.lemmas.Bool.{cases_lt}
 use Rattle.std.proofs.Math.Nat.{mul-le-mul_left, pow-le-pow_right}
-use lib.IntN.{neg_ℤ}
-use Rattle.interval.specs.fx_model.Fraction.{Fraction, ◌+ℚ◌, ◌*ℚ◌, neg_ℚ, ◌≤ℚ◌, ◌<ℚ◌, le_or_lt}
-use Rattle.interval.specs.fx_model.Fraction.{lt_not, le_trans, lt_le_trans, le_lt_trans, lt_le}
-use Rattle.interval.specs.fx_model.Fraction.{add_comm, neg-add, neg-neg, middle_sums}
-use Rattle.interval.specs.fx_model.Fraction.Core.Floor.{div_bounds}
-use Rattle.interval.specs.fx_model.Powers.{whole, whole-add, whole-le, scaled, scaled-le, scaled-lt}
-use Rattle.interval.specs.fx_model.Powers.{scaled-shift, two_to, floor_low, floor_high}
-use Rattle.interval.specs.fx_model.Powers.{floor_unique}
-use Rattle.interval.specs.fx_model.Grid.{scaled-neg}
-use Rattle.interval.specs.fx_model.Rounded.{floor, ceiling, half, near_low, near_high}
-use Rattle.rounding.specs.Sums.{plus-le, plus-lt, add-lt, add-mul}
+use Rattle.fx_model.specs.Fraction.{Fraction, ◌+ℚ◌, ◌*ℚ◌, neg_ℚ, ◌≤ℚ◌, ◌<ℚ◌, le_or_lt, lt_not}
+use Rattle.fx_model.specs.Fraction.{le_trans, lt_le_trans, le_lt_trans, lt_le, add_comm, neg-add}
+use Rattle.fx_model.specs.Fraction.{neg-neg, middle_sums, add-lt, add-mul}
+use Rattle.fx_model.specs.Fraction.Core.Floor.{div_bounds}
+use Rattle.fx_model.specs.Powers.{whole, whole-add, whole-le, scaled, scaled-le, scaled-lt}
+use Rattle.fx_model.specs.Powers.{scaled-shift, two_to, floor_low, floor_high, floor_unique}
+use Rattle.fx_model.specs.Grid.{scaled-neg}
+use Rattle.fx_model.specs.Rounded.{floor, ceiling, half, near_low, near_high}
+use Rattle.rounding.specs.Sums.{plus-le, plus-lt}
 use Rattle.rounding.specs.Nearest.{halves}
 use Rattle.rounding.specs.Rounded.{two_to-zero, mul-whole_one}
 

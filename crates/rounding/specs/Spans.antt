@@ -1,6 +1,6 @@
 -- Errors by the side that they go to.
-use Rattle.interval.specs.fx_model.Fraction.{Fraction}
-use Rattle.interval.specs.fx_model.Enclosure.{Range}
+use Rattle.fx_model.specs.Fraction.{Fraction}
+use Rattle.fx_model.specs.Enclosure.{Range}
 use Rattle.rounding.specs.declared.bounds.Span.{Span}
 use Rattle.rounding.specs.declared.bounds.Span.TheVariants.{Nowhere, Leftward, Rightward, Sideward}
 use Rattle.rounding.specs.declared.bounds.Span.TheVariants.{Near}

@@ -1,12 +1,10 @@
 -- Sums and differences of fractions: what moves from one side of an order to the other.
 use Rattle.std.specs.Prelude.{◌≡◌}
 use Rattle.std.proofs.Common.{ap, ◌∙◌, subst}
-use Rattle.interval.specs.fx_model.Fraction.{Fraction, ◌+ℚ◌, ◌-ℚ◌, ◌*ℚ◌, neg_ℚ, zero_ℚ, ◌≤ℚ◌, ◌<ℚ◌}
-use Rattle.interval.specs.fx_model.Fraction.{add_comm, add-neg, neg-neg}
-use Rattle.interval.specs.fx_model.Fraction.{neg-add, neg-le, add-le, lt_by, lt_not, mul_comm}
-use Rattle.interval.specs.fx_model.Fraction.{mul-le_cancel, neg_down}
-pub use Rattle.interval.specs.fx_model.Fraction.{add-zero, add-sub, add-lt, add-mul, neg-lt}
-pub use Rattle.interval.specs.fx_model.Fraction.{times-le, times-lt}
+use Rattle.fx_model.specs.Fraction.{Fraction, ◌+ℚ◌, ◌-ℚ◌, ◌*ℚ◌, neg_ℚ, zero_ℚ, ◌≤ℚ◌, ◌<ℚ◌, add_comm}
+use Rattle.fx_model.specs.Fraction.{add-neg, neg-neg, neg-add, neg-le, add-le, lt_by, lt_not}
+use Rattle.fx_model.specs.Fraction.{mul_comm, mul-le_cancel, neg_down, add-zero, add-sub, add-lt}
+use Rattle.fx_model.specs.Fraction.{neg-lt}
 
 -- ---- the order
 pub neg-le_left : (x y : Fraction) → neg_ℚ x ≤ℚ y → neg_ℚ y ≤ℚ x

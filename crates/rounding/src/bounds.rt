@@ -1,19 +1,21 @@
 ghost use Rattle.std.specs.Prelude.{◌≡◌, ◌≤◌, ◌^◌, pos, negsuc, ◌+ℤ◌, ◌≤ℤ◌, ◌<ℤ◌, false};
-ghost use Rattle.interval.specs.fx_model.Fraction.{Fraction, ◌-ℚ◌, ◌≤ℚ◌, zero_ℚ};
-ghost use Rattle.interval.specs.fx_model.Powers.{two_to};
-ghost use Rattle.interval.specs.fx_model.Grid.{At, IsUp};
-ghost use Rattle.interval.specs.fx_model.Enclosure.{Lies, IsEnclosure};
-ghost use Rattle.interval.specs.dyadic.Values.{value_of};
+ghost use Rattle.fx_model.specs.Fraction.{Fraction, ◌-ℚ◌, ◌≤ℚ◌, zero_ℚ};
+ghost use Rattle.fx_model.specs.Powers.{two_to};
+ghost use Rattle.fx_model.specs.Grid.{At, IsUp};
+ghost use Rattle.fx_model.specs.Enclosure.{Lies, IsEnclosure};
+ghost use Rattle.grid_words.specs.Products.{closed};
+ghost use Rattle.dyadic.specs.Values.{value_of};
 ghost use Rattle.interval.specs.Intervals.{range_of};
 ghost use Rattle.rounding.specs.Errors.{IsPossible, error_range, half_of, signed_errors};
 ghost use Rattle.rounding.specs.Errors.{largest_error, keeps};
-ghost use Rattle.interval.specs.grid_words.Products.{closed};
 ghost use Rattle.rounding.specs.Spans.{spanned};
 
 use crate::number::{number, power};
 use crate::round::places_below;
 use crate::sign::Sign;
-use interval::{Direction, Dyadic, End, Interval, Rounding};
+use fx_model::{Direction, Rounding};
+use dyadic::{Dyadic, End};
+use interval::Interval;
 
 // To which side errors go, and how far: the unit or half of it.
 #[derive(Clone, Copy)]

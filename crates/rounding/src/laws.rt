@@ -1,12 +1,11 @@
 ghost use Rattle.std.specs.Prelude.{◌≡◌, ◌↔◌, ℤ, pos, negsuc, ◌+ℤ◌, ◌≤ℤ◌, Option};
-ghost use Rattle.interval.specs.fx_model.Fraction.{Fraction, ◌+ℚ◌, ◌-ℚ◌, ◌≤ℚ◌};
-ghost use Rattle.interval.specs.fx_model.Powers.{whole, IsMultiple};
-ghost use Rattle.interval.specs.fx_model.Grid.{IsOnGrid};
-ghost use Rattle.interval.specs.fx_model.Enclosure.{Lies};
-ghost use Rattle.interval.specs.fx_model.Rounded.{floor, ceiling};
-ghost use Rattle.interval.specs.fx_model.declared.Direction.{Direction};
+ghost use Rattle.fx_model.specs.Fraction.{Fraction, ◌+ℚ◌, ◌-ℚ◌, ◌≤ℚ◌};
+ghost use Rattle.fx_model.specs.Powers.{whole, IsMultiple};
+ghost use Rattle.fx_model.specs.Grid.{IsOnGrid};
+ghost use Rattle.fx_model.specs.Enclosure.{Lies};
+ghost use Rattle.fx_model.specs.Rounded.{floor, ceiling, rounded};
+ghost use Rattle.fx_model.specs.declared.Direction.{Direction};
 ghost use Rattle.rounding.specs.declared.sign.Sign.{Sign};
-ghost use Rattle.interval.specs.fx_model.Rounded.{rounded};
 ghost use Rattle.rounding.specs.Errors.{HasSign, HasPlace, IsPossible, error_range};
 
 /// Nothing is done. The clauses tell a caller what floors and ceilings are of sums and of ordered

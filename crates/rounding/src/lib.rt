@@ -1,8 +1,6 @@
 //! Roundings of grid numbers to the multiples of a power of two, and how far they move a number.
 #![tactic(auto)]
 
-// What callers name of the crates below.
-pub use interval::{Dyadic, End, Interval, fix_of};
 
 mod bounds;
 mod laws;

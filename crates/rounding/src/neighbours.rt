@@ -1,13 +1,13 @@
 // The whole numbers next to a number m / 2^places, and which of them a direction takes.
+ghost use lib.IntN.{neg_ℤ};
 ghost use Rattle.std.specs.Prelude.{◌≡◌, ◌<◌, ◌≤◌, pos, if◌then◌else◌};
 ghost use Rattle.std.specs.Int.RustNames.{unsigned_abs};
-ghost use lib.IntN.{neg_ℤ};
-ghost use Rattle.interval.specs.fx_model.Powers.{scaled};
-ghost use Rattle.interval.specs.fx_model.Rounded as table;
-ghost use Rattle.interval.specs.fx_model.Rounded.{floor, near_high};
+ghost use Rattle.fx_model.specs.Powers.{scaled};
+ghost use Rattle.fx_model.specs.Rounded as table;
+ghost use Rattle.fx_model.specs.Rounded.{floor, near_high};
 ghost use Rattle.rounding.specs.Chosen.{AreNeighbours, chosen};
 
-use interval::Direction;
+use fx_model::Direction;
 
 /// The whole numbers that roundings of a number may take, whatever their direction.
 #[derive(Clone, Copy)]

@@ -1,10 +1,10 @@
 // Numbers that are known to be on the grid.
 ghost use Rattle.std.specs.Prelude.{◌≡◌, pos, negsuc, ◌≤ℤ◌};
-ghost use Rattle.interval.specs.fx_model.Powers.{scaled, two_to};
-ghost use Rattle.interval.specs.fx_model.Grid.{IsOnGrid};
-ghost use Rattle.interval.specs.dyadic.Values.{value_of};
+ghost use Rattle.fx_model.specs.Powers.{scaled, two_to};
+ghost use Rattle.fx_model.specs.Grid.{IsOnGrid};
+ghost use Rattle.dyadic.specs.Values.{value_of};
 
-use interval::Dyadic;
+use dyadic::Dyadic;
 
 /// The number `m * 2^place`, which has to be on the grid.
 pub fn number(m: i64, place: i32) -> Dyadic

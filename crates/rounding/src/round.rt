@@ -1,10 +1,11 @@
 ghost use Rattle.std.specs.Prelude.{◌≡◌, ◌<◌, pos, negsuc, ◌+ℤ◌, ◌≤ℤ◌, ◌<ℤ◌};
-ghost use Rattle.interval.specs.fx_model.Rounded.{rounded};
-ghost use Rattle.interval.specs.dyadic.Values.{value_of};
+ghost use Rattle.fx_model.specs.Rounded.{rounded};
+ghost use Rattle.dyadic.specs.Values.{value_of};
 
 use crate::neighbours::Neighbours;
 use crate::number::number;
-use interval::{Dyadic, Rounding};
+use dyadic::Dyadic;
+use fx_model::Rounding;
 
 /// The number rounded to a multiple of 2^lsb, which is on the grid again.
 pub fn round_grid(r: Rounding, x: Dyadic) -> Dyadic

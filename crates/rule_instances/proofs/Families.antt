@@ -1,15 +1,15 @@
 -- Which kind an instance is of, by its rule's number, and which expression, or pair, it is read
 -- off.
-use Rattle.std.specs.Prelude.{◌≡◌, ◌⊎◌, ◌||◌, ◌==◌, ℕ, Bool, if◌then◌else◌, List, []}
-use Rattle.std.specs.Prelude.{◌∷◌, nat_lt, refl}
+use Rattle.std.specs.Prelude.{◌≡◌, ◌⊎◌, ◌||◌, ◌==◌, ℕ, Bool, if◌then◌else◌, List, [], ◌∷◌, nat_lt}
+use Rattle.std.specs.Prelude.{refl}
 use Rattle.std.proofs.Common.{inl, inr}
 use Rattle.fx_model.specs.declared.ExprId.{ExprId}
 use Rattle.fx_model.specs.declared.Node.{Node}
-use Rattle.pair_closure.specs.expr_dag.Nodes.{IsAt}
+use Rattle.expr_dag.specs.Nodes.{IsAt}
+use Rattle.pair_closure.specs.Closure.{Pair}
 use Rattle.facts.specs.declared.fact.Slot.{Slot}
 use Rattle.facts.specs.declared.fact.Slot.TheVariants.{Bnd, Abs, Rel, Fix, Nzr, Void}
 use Rattle.facts.specs.declared.hint.HintRow.{HintRow}
-use Rattle.pair_closure.specs.Closure.{Pair}
 use Rattle.facts.specs.declared.instance.Instance.{Instance}
 use Rattle.rule_instances.specs.Instances.{OfAny, OfOperation, OfError, OfTerms, OfChain, OfPair}
 use Rattle.rule_instances.specs.Instances.{OfHint}

@@ -1,17 +1,17 @@
 -- The lists of a difference past other expressions have exactly its chains, each once.
-use Rattle.std.specs.Prelude.{◌≡◌, ◌⊎◌, ◌↔◌, ◌&&◌, ℕ, Bool, true, false, not, if◌then◌else◌}
-use Rattle.std.specs.Prelude.{List, [], ◌∷◌, Some, refl}
+use Rattle.std.specs.Prelude.{◌≡◌, ◌⊎◌, ◌↔◌, ◌&&◌, ℕ, Bool, true, false, not, if◌then◌else◌, List}
+use Rattle.std.specs.Prelude.{[], ◌∷◌, Some, refl}
 use Rattle.std.proofs.Common.{inl, inr, ap, sym, ◌∙◌, subst}
 use Rattle.std.proofs.lemmas.Bool.{and_parts, not-true}
 use Rattle.fx_model.specs.declared.ExprId.{ExprId}
 use Rattle.fx_model.specs.declared.Node.{Node}
 use Rattle.fx_model.specs.declared.Node.TheVariants.{Sub}
-use Rattle.pair_closure.specs.expr_dag.Nodes.{IsAt, place_of, one_node}
-use Rattle.facts.specs.declared.fact.Slot.TheVariants as slot
+use Rattle.expr_dag.specs.Nodes.{IsAt, place_of, one_node}
 use Rattle.pair_closure.specs.Reached.{Has, IsEachOnce}
 use Rattle.pair_closure.specs.Closure.{Pair, AreApart, is_same}
 use Rattle.pair_closure.specs.Members.{no_member, has_first, once_nil}
 use Rattle.pair_closure.specs.Ids.{not_same, apart_ids}
+use Rattle.facts.specs.declared.fact.Slot.TheVariants as slot
 use Rattle.facts.specs.declared.instance.Instance.{Instance}
 use Rattle.rule_instances.specs.Slots.{rule}
 use Rattle.rule_instances.specs.Instances.{OfChain}

@@ -9,12 +9,13 @@ use Rattle.fx_model.specs.declared.Direction.TheVariants.{Zr, Aw}
 use Rattle.fx_model.specs.declared.Rounding.{Rounding}
 use Rattle.fx_model.specs.declared.Node.{Node}
 use Rattle.fx_model.specs.declared.Node.TheVariants.{Neg, Add, Sub, Mul, Round}
-use Rattle.pair_closure.specs.expr_dag.Nodes.{IsAt, place_of, one_node}
-use Rattle.facts.specs.declared.fact.Slot.TheVariants as slot
+use Rattle.expr_dag.specs.Nodes.{IsAt, place_of, one_node}
 use Rattle.pair_closure.specs.Reached.{Has, IsListOf, IsEachOnce}
 use Rattle.pair_closure.specs.Closure.{is_same}
 use Rattle.pair_closure.specs.Ids.{same_ids, self_same}
-use Rattle.pair_closure.specs.Members.{no_member, has_cases, has_first}
+use Rattle.pair_closure.specs.Members.{no_member, has_cases, has_first, has_all, has_right}
+use Rattle.pair_closure.specs.Members.{has_either, once_cons, once_nil}
+use Rattle.facts.specs.declared.fact.Slot.TheVariants as slot
 use Rattle.facts.specs.declared.instance.Instance.{Instance}
 use Rattle.rule_instances.specs.Slots.{rule}
 use Rattle.rule_instances.specs.Lists.{given}
@@ -22,7 +23,6 @@ use Rattle.rule_instances.specs.Instances.{OfError, OfTerms}
 use Rattle.rule_instances.specs.Instances.OfError.{rule_42, rule_43, rule_44}
 use Rattle.rule_instances.specs.Instances.OfTerms.{rule_71, rule_72, rule_73, rule_74}
 use Rattle.rule_instances.specs.Found.{found, both_found, is_sided, error_rules, at_error, at_terms}
-use Rattle.pair_closure.specs.Members.{has_all, has_right, has_either, once_cons, once_nil}
 use Rattle.rule_instances.proofs.Lists.{once_given, given_out, given_in}
 
 -- ---- what is found

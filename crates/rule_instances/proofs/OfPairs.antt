@@ -6,14 +6,15 @@ use Rattle.std.proofs.lemmas.Bool.{and_parts, and_from}
 use Rattle.fx_model.specs.declared.ExprId.{ExprId}
 use Rattle.fx_model.specs.declared.Node.{Node}
 use Rattle.fx_model.specs.declared.Node.TheVariants.{Neg, Add, Sub, Mul, Div}
-use Rattle.pair_closure.specs.expr_dag.Nodes.{IsAt, place_of, one_node}
-use Rattle.facts.specs.declared.fact.Slot.TheVariants as slot
+use Rattle.expr_dag.specs.Nodes.{IsAt, place_of, one_node}
 use Rattle.pair_closure.specs.Reached.{Has}
 use Rattle.pair_closure.specs.Closure.{Pair, is_same}
 use Rattle.pair_closure.specs.Among.{is_among}
 use Rattle.pair_closure.specs.Look.{among_out, among_in}
 use Rattle.pair_closure.specs.Ids.{same_ids, apart_ids, self_same, not_same}
-use Rattle.pair_closure.specs.Members.{no_member, has_first}
+use Rattle.pair_closure.specs.Members.{no_member, has_first, has_all, has_left, has_right}
+use Rattle.pair_closure.specs.Members.{has_either}
+use Rattle.facts.specs.declared.fact.Slot.TheVariants as slot
 use Rattle.facts.specs.declared.instance.Instance.{Instance}
 use Rattle.rule_instances.specs.Slots.{rule}
 use Rattle.rule_instances.specs.Lists.{given}
@@ -24,7 +25,6 @@ use Rattle.rule_instances.specs.Instances.OfPair.{rule_58, rule_59, rule_60, rul
 use Rattle.rule_instances.specs.Instances.OfPair.{rule_78, rule_92}
 use Rattle.rule_instances.specs.Found.{found, pair_rules, twin_rules, difference_rules, apart_rules}
 use Rattle.rule_instances.specs.Found.{operation_rules, at_pair, past_pair}
-use Rattle.pair_closure.specs.Members.{has_all, has_left, has_right, has_either}
 use Rattle.rule_instances.proofs.Lists.{given_out, given_in}
 use Rattle.rule_instances.proofs.OfDifferences.{found_out, found_in, one_out}
 

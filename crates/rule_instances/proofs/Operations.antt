@@ -5,12 +5,12 @@ use Rattle.std.proofs.Common.{inl, inr, sym, subst}
 use Rattle.fx_model.specs.declared.ExprId.{ExprId}
 use Rattle.fx_model.specs.declared.Node.{Node}
 use Rattle.fx_model.specs.declared.Node.TheVariants.{Var, Lit, Neg, Add, Sub, Mul, Div, Abs, Round}
-use Rattle.pair_closure.specs.expr_dag.Nodes.{IsAt, one_node}
-use Rattle.facts.specs.declared.fact.Slot.TheVariants as slot
+use Rattle.expr_dag.specs.Nodes.{IsAt, one_node}
 use Rattle.pair_closure.specs.Reached.{Has, IsListOf, IsEachOnce}
 use Rattle.pair_closure.specs.Closure.{is_same}
 use Rattle.pair_closure.specs.Ids.{same_ids, self_same}
-use Rattle.pair_closure.specs.Members.{no_member}
+use Rattle.pair_closure.specs.Members.{no_member, has_all, has_right, has_either, once_nil}
+use Rattle.facts.specs.declared.fact.Slot.TheVariants as slot
 use Rattle.facts.specs.declared.instance.Instance.{Instance}
 use Rattle.rule_instances.specs.Slots.{rule}
 use Rattle.rule_instances.specs.Instances.{OfAny, OfOperation}
@@ -25,7 +25,6 @@ use Rattle.rule_instances.specs.Instances.OfOperation.{rule_18, rule_34, rule_10
 use Rattle.rule_instances.specs.Instances.OfOperation.{rule_25, rule_26, rule_41}
 use Rattle.rule_instances.specs.Lists.{given, at_any, difference_rules, product_rules}
 use Rattle.rule_instances.specs.Lists.{quotient_rules, at_operation}
-use Rattle.pair_closure.specs.Members.{has_all, has_right, has_either, once_nil}
 use Rattle.rule_instances.proofs.Lists.{once_by_number, once_given, given_out, given_in}
 
 -- ---- of any expression

@@ -6,13 +6,13 @@ use Rattle.std.proofs.Common.{inl, inr, arith, ap, sym, ◌∙◌, subst, append
 use Rattle.fx_model.specs.declared.ExprId.{ExprId}
 use Rattle.fx_model.specs.declared.Node.{Node}
 use Rattle.fx_model.specs.declared.Node.TheVariants.{Neg, Add, Sub, Mul, Div}
-use Rattle.pair_closure.specs.expr_dag.Nodes.{place_of}
-use Rattle.facts.specs.declared.fact.Slot.TheVariants as slot
+use Rattle.expr_dag.specs.Nodes.{place_of}
 use Rattle.pair_closure.specs.Reached.{Has, IsEachOnce}
 use Rattle.pair_closure.specs.Closure.{Pair, is_same}
 use Rattle.pair_closure.specs.Among.{is_among}
 use Rattle.pair_closure.specs.Ids.{apart_ids}
 use Rattle.pair_closure.specs.Members.{has_all, no_member, has_either, once_nil, once_append}
+use Rattle.facts.specs.declared.fact.Slot.TheVariants as slot
 use Rattle.facts.specs.declared.instance.Instance.{Instance}
 use Rattle.rule_instances.specs.Slots.{rule}
 use Rattle.rule_instances.specs.Lists.{given}

@@ -6,7 +6,7 @@ use Rattle.fx_model.specs.declared.ExprId.{ExprId}
 use Rattle.fx_model.specs.declared.Node.{Node}
 use Rattle.fx_model.specs.declared.Node.TheVariants.{Sub}
 use Rattle.fx_model.specs.Expression.{ChildrenBelow, IsOrdered}
-use Rattle.pair_closure.specs.expr_dag.Nodes.{IsAt}
+use Rattle.expr_dag.specs.Nodes.{IsAt}
 
 pub sides_known : (nodes : List Node) → IsOrdered nodes → (x a c : ExprId) → IsAt nodes x (Sub a c)
     → (a.0 < length nodes) × (c.0 < length nodes)

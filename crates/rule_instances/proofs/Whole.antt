@@ -1,23 +1,23 @@
 -- The list of all instances has exactly these, each once.
-use Rattle.std.specs.Prelude.{◌≡◌, ◌≢◌, ◌⊎◌, ◌↔◌, ◌<◌, ℕ, List, [], ◌∷◌, ◌++◌, Some}
-use Rattle.std.specs.Prelude.{slice_get, length, refl}
+use Rattle.std.specs.Prelude.{◌≡◌, ◌≢◌, ◌⊎◌, ◌↔◌, ◌<◌, ℕ, List, [], ◌∷◌, ◌++◌, Some, slice_get}
+use Rattle.std.specs.Prelude.{length, refl}
 use Rattle.std.specs.List.{AllByRecursion}
 use Rattle.std.proofs.Common.{inl, inr, arith, ap, sym, ◌∙◌}
 use Rattle.std.proofs.lemmas.Option.{slice_get-get_or}
 use Rattle.fx_model.specs.declared.ExprId.{ExprId}
 use Rattle.fx_model.specs.declared.Node.{Node}
 use Rattle.fx_model.specs.declared.Node.TheVariants.{Var, Lit, Neg, Add, Sub, Mul, Div, Abs, Round}
-use Rattle.pair_closure.specs.expr_dag.Nodes.{IsAt, place_of}
-use Rattle.facts.specs.declared.fact.Slot.{Slot}
-use Rattle.facts.specs.declared.fact.Slot.TheVariants as slot
-use Rattle.facts.specs.declared.hint.HintRow.{HintRow}
+use Rattle.expr_dag.specs.Nodes.{IsAt, place_of}
 use Rattle.pair_closure.specs.Reached.{Has, IsEachOnce, IsListOf}
 use Rattle.pair_closure.specs.Closure.{Pair, AreKnown}
 use Rattle.pair_closure.specs.Rows.{seconds}
 use Rattle.pair_closure.specs.Members.{no_member, has_all, has_left, has_right, has_either}
 use Rattle.pair_closure.specs.Members.{once_nil, once_cons, once_append}
-use Rattle.facts.specs.declared.instance.Instance.{Instance}
 use Rattle.pair_closure.specs.Among.{is_among}
+use Rattle.facts.specs.declared.fact.Slot.{Slot}
+use Rattle.facts.specs.declared.fact.Slot.TheVariants as slot
+use Rattle.facts.specs.declared.hint.HintRow.{HintRow}
+use Rattle.facts.specs.declared.instance.Instance.{Instance}
 use Rattle.rule_instances.specs.Slots.{rule, rewriting}
 use Rattle.rule_instances.specs.Lists.{at_any, at_operation}
 use Rattle.rule_instances.specs.Found.{at_error, at_terms, at_pair}
@@ -35,9 +35,8 @@ use Rattle.rule_instances.specs.Instances.IsInstance.{of_any, of_operation, of_e
 use Rattle.rule_instances.specs.Instances.IsInstance.{of_chain, of_pair as by_pair}
 use Rattle.rule_instances.specs.Instances.IsInstance.{of_hint as by_hint}
 use Rattle.rule_instances.proofs.Each.{At, at_place, place_at, each_out, each_in, each_once}
-use Rattle.rule_instances.proofs.Families.{kind, home, any_home, operation_home}
-use Rattle.rule_instances.proofs.Families.{operation_node, error_home, terms_home, chain_home}
-use Rattle.rule_instances.proofs.Families.{pair_read, hint_read}
+use Rattle.rule_instances.proofs.Families.{kind, home, any_home, operation_home, operation_node}
+use Rattle.rule_instances.proofs.Families.{error_home, terms_home, chain_home, pair_read, hint_read}
 use Rattle.rule_instances.proofs.Lists.{given_out, given_once}
 use Rattle.rule_instances.proofs.Operations.{any_list, operation_list}
 use Rattle.rule_instances.proofs.OfDifferences.{error_list, terms_list}

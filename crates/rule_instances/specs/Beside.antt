@@ -4,10 +4,10 @@ use Rattle.std.specs.Prelude.{◌≡◌, ◌==◌, Bool, false, ℕ, List, refl}
 use Rattle.std.proofs.Common.{ap, sym, ◌∙◌, true≢false}
 use Rattle.fx_model.specs.declared.ExprId.{ExprId}
 use Rattle.fx_model.specs.declared.Node.{Node}
-use Rattle.facts.specs.declared.fact.Slot.TheVariants.{Void}
-use Rattle.facts.specs.declared.hint.HintRow.{HintRow}
 use Rattle.pair_closure.specs.Closure.{Pair}
 use Rattle.pair_closure.specs.Reached.{Has}
+use Rattle.facts.specs.declared.fact.Slot.TheVariants.{Void}
+use Rattle.facts.specs.declared.hint.HintRow.{HintRow}
 use Rattle.facts.specs.declared.instance.Instance.{Instance}
 use Rattle.rule_instances.specs.Slots.{rule}
 use Rattle.rule_instances.specs.Instances.{OfAny, OfOperation, OfError, OfTerms, OfChain, OfPair}

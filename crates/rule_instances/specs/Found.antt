@@ -6,10 +6,10 @@ use Rattle.fx_model.specs.declared.Direction.{Direction}
 use Rattle.fx_model.specs.declared.Direction.TheVariants.{Zr, Aw}
 use Rattle.fx_model.specs.declared.Node.{Node}
 use Rattle.fx_model.specs.declared.Node.TheVariants as node
-use Rattle.pair_closure.specs.expr_dag.Nodes.{place_of}
-use Rattle.facts.specs.declared.fact.Slot.TheVariants.{Bnd, Rel, Fix, Nzr, Void}
+use Rattle.expr_dag.specs.Nodes.{place_of}
 use Rattle.pair_closure.specs.Closure.{Pair, is_same}
 use Rattle.pair_closure.specs.Among.{is_among}
+use Rattle.facts.specs.declared.fact.Slot.TheVariants.{Bnd, Rel, Fix, Nzr, Void}
 use Rattle.facts.specs.declared.instance.Instance.{Instance}
 use Rattle.rule_instances.specs.Slots.{rule}
 use Rattle.rule_instances.specs.Lists.{given}

@@ -5,10 +5,10 @@ use Rattle.std.specs.Prelude.{slice_index_or}
 use Rattle.fx_model.specs.declared.ExprId.{ExprId}
 use Rattle.fx_model.specs.declared.Node.{Node}
 use Rattle.fx_model.specs.declared.Node.TheVariants as node
-use Rattle.facts.specs.declared.fact.Slot.TheVariants as slot
-use Rattle.facts.specs.declared.hint.HintRow.{HintRow}
 use Rattle.pair_closure.specs.Closure.{Pair, is_same}
 use Rattle.pair_closure.specs.Rows.{seconds}
+use Rattle.facts.specs.declared.fact.Slot.TheVariants as slot
+use Rattle.facts.specs.declared.hint.HintRow.{HintRow}
 use Rattle.facts.specs.declared.instance.Instance.{Instance}
 use Rattle.rule_instances.specs.Slots.{rewriting}
 use Rattle.rule_instances.specs.Lists.{at_any, at_operation}

@@ -8,10 +8,10 @@ use Rattle.fx_model.specs.declared.Direction.TheVariants.{Zr, Aw}
 use Rattle.fx_model.specs.declared.Rounding.{Rounding}
 use Rattle.fx_model.specs.declared.Node.{Node}
 use Rattle.fx_model.specs.declared.Node.TheVariants as node
-use Rattle.pair_closure.specs.expr_dag.Nodes.{IsAt}
+use Rattle.expr_dag.specs.Nodes.{IsAt}
+use Rattle.pair_closure.specs.Closure.{Pair, AreApart}
 use Rattle.facts.specs.declared.fact.Slot.TheVariants.{Bnd, Abs, Rel, Fix, Nzr, Void}
 use Rattle.facts.specs.declared.hint.HintRow.{HintRow}
-use Rattle.pair_closure.specs.Closure.{Pair, AreApart}
 use Rattle.facts.specs.declared.instance.Instance.{Instance}
 use Rattle.rule_instances.specs.Slots.{rule, rewriting}
 

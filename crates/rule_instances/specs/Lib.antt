@@ -1,5 +1,3 @@
--- What callers name of the crates below.
-pub use Rattle.pair_closure.specs as pair_closure
 pub mod Slots
 pub mod Instances
 pub mod Lists

@@ -3,8 +3,8 @@ use Rattle.std.specs.Prelude.{Bool, List, [], ◌∷◌, ◌++◌, if◌then◌e
 use Rattle.fx_model.specs.declared.ExprId.{ExprId}
 use Rattle.fx_model.specs.declared.Node.{Node}
 use Rattle.fx_model.specs.declared.Node.TheVariants as node
-use Rattle.facts.specs.declared.fact.Slot.TheVariants.{Bnd, Abs, Fix, Nzr, Void}
 use Rattle.pair_closure.specs.Closure.{is_same}
+use Rattle.facts.specs.declared.fact.Slot.TheVariants.{Bnd, Abs, Fix, Nzr, Void}
 use Rattle.facts.specs.declared.instance.Instance.{Instance}
 use Rattle.rule_instances.specs.Slots.{rule}
 

@@ -1,7 +1,7 @@
 //! The instances of all expressions, pairs and hints.
 
 ghost use Rattle.std.specs.Prelude.{◌≡◌, ◌<◌, ◌++◌, length, IfOk, OnOk};
-ghost use Rattle.pair_closure.specs.expr_dag.Nodes.{IsAt};
+ghost use Rattle.expr_dag.specs.Nodes.{IsAt};
 ghost use Rattle.pair_closure.specs.Reached.{Has, IsListOf};
 ghost use Rattle.pair_closure.specs.Closure.{AreKnown};
 ghost use Rattle.rule_instances.specs.Instances.{IsInstance};
@@ -17,7 +17,8 @@ use crate::rows::Rows;
 use crate::sides::{add_at_pair, add_past_pair};
 use facts::{HintRow, Instance};
 use fx_model::{ExprId, Node};
-use pair_closure::{Dag, PairIndex};
+use expr_dag::Dag;
+use pair_closure::PairIndex;
 use std::alloc::{AllocError, Global};
 
 // Adds those of one expression.

@@ -2,8 +2,6 @@
 //! pairs.
 #![tactic(auto)]
 
-// What callers name of the crates below.
-pub use pair_closure::{Closure, ClosureFault, PairIndex, closure_of, closures_are_one};
 
 mod all;
 mod differences;
@@ -14,5 +12,4 @@ mod rows;
 mod sides;
 
 pub use all::instances_of;
-pub use facts::Instance;
 pub use laws::shrinking_has_its_neighbour;

@@ -1,7 +1,8 @@
 //! Hints that are the same, that differ, and that are too large.
 ghost use Rattle.std.specs.Prelude.{◌<◌, ◌≤◌, length, IfOk};
 
-use expr_dag::{Dag, DagFault, ExprId, Node};
+use expr_dag::{Dag, DagFault};
+use fx_model::{ExprId, Node};
 use literal::read;
 use poly_normal::{Sameness, same};
 use std::test::Fail;

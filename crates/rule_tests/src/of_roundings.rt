@@ -2,7 +2,8 @@
 // by hand.
 use crate::of_theorem_fix::{B, F, INF, Nil, No, One, Two, V, bnd, fix, try_rows};
 use dyadic::{Dyadic, End};
-use expr_dag::{Dag, Direction, ExprId, Node, Rounding};
+use expr_dag::Dag;
+use fx_model::{Direction, ExprId, Node, Rounding};
 use facts::{Fact, Slot};
 use interval::Interval;
 use literal::read;

@@ -2,11 +2,10 @@
 use Rattle.std.specs.Prelude.{◌≡◌, ◌<◌, ◌≤◌, ◌+◌, ◌-◌, ℕ, zero, suc, List, [], ◌∷◌, ◌++◌, Some}
 use Rattle.std.specs.Prelude.{length, take, drop, slice_get, refl}
 use Rattle.std.proofs.Common.{inl, inr, arith, ap, sym, ◌∙◌, length-append, get_or}
-use Rattle.std.proofs.lemmas.List.{take-append-le, drop-append-le}
+use Rattle.std.proofs.lemmas.List.{take-append-le, drop-append-le, take_all, length-drop}
 use Rattle.std.proofs.Math.Seq.{drop-append_seam}
-use Rattle.std.proofs.lemmas.List.{take_all, length-drop}
 use Rattle.std.proofs.lemmas.Option.{slice_get_within, slice_get-get_or}
-use Rattle.rule_instances.specs.pair_closure.Members.{some-inj, none_at, ends_with, last_at}
+use Rattle.pair_closure.specs.Members.{some-inj, none_at, ends_with, last_at}
 use Rattle.rule_universe.specs.Flat.{cut_from, rows_in, IsFlat}
 
 -- The numbers are those of a list of rows with n elements: the last of them is n.

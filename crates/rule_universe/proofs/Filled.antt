@@ -8,11 +8,11 @@ use Rattle.std.proofs.lemmas.List.Elements.{Contains-push, Contains-push_cases}
 use Rattle.std.proofs.lemmas.List.Elements.{Contains-append_left}
 use Rattle.std.proofs.lemmas.Option.{slice_get_within, get_or_from_slice_get}
 use Rattle.std.proofs.lemmas.Bool.{cases_lt}
-use Rattle.derivation.specs.facts.declared.fact.Slot.{Slot}
-use Rattle.rule_instances.specs.pair_closure.Reached.{Has, IsEachOnce}
-use Rattle.rule_instances.specs.pair_closure.Closure.{Pair}
-use Rattle.rule_instances.specs.pair_closure.Members.{some-inj, none_at, has_from_contains}
-use Rattle.derivation.specs.facts.declared.instance.Instance.{Instance}
+use Rattle.pair_closure.specs.Reached.{Has, IsEachOnce}
+use Rattle.pair_closure.specs.Closure.{Pair}
+use Rattle.pair_closure.specs.Members.{some-inj, none_at, has_from_contains}
+use Rattle.facts.specs.declared.fact.Slot.{Slot}
+use Rattle.facts.specs.declared.instance.Instance.{Instance}
 use Rattle.rule_universe.specs.Places.{IsPlace, place_count}
 use Rattle.rule_universe.specs.Users.{AreUsers}
 use Rattle.rule_universe.specs.Rows.{RowsUpTo, IsAdded, IsPlaceOfOne, AreRows}

@@ -6,10 +6,10 @@ use Rattle.std.proofs.Math.Seq.{take-suc}
 use Rattle.std.proofs.lemmas.List.{take_all, map-append, append-nil}
 use Rattle.std.proofs.lemmas.List.Elements.{Contains-push_cases}
 use Rattle.std.proofs.lemmas.Option.{slice_get_within}
-use Rattle.derivation.specs.facts.declared.fact.Slot.{Slot}
-use Rattle.derivation.specs.facts.declared.instance.Instance.{Instance}
-use Rattle.rule_instances.specs.pair_closure.Closure.{Pair}
-use Rattle.rule_instances.specs.pair_closure.Members.{none_at, ends_with}
+use Rattle.pair_closure.specs.Closure.{Pair}
+use Rattle.pair_closure.specs.Members.{none_at, ends_with}
+use Rattle.facts.specs.declared.fact.Slot.{Slot}
+use Rattle.facts.specs.declared.instance.Instance.{Instance}
 use Rattle.rule_universe.specs.declared.placed.Placed.{Placed}
 use Rattle.rule_universe.specs.Places.{IsPlace}
 use Rattle.rule_universe.specs.Placed.{IsPlaced, ArePlaced, ArePremises, AreTargets, AddsPlaced}

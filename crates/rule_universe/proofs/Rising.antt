@@ -4,8 +4,8 @@ use Rattle.std.specs.Prelude.{slice_get, length}
 use Rattle.std.proofs.Common.{inl, inr, arith, ap, sym, ◌∙◌, get_or}
 use Rattle.std.proofs.lemmas.Option.{slice_get_within, slice_get-get_or}
 use Rattle.std.proofs.lemmas.Bool.{cases_lt}
-use Rattle.rule_instances.specs.pair_closure.Reached.{Has}
-use Rattle.rule_instances.specs.pair_closure.Members.{before_last, last_at, ends_with}
+use Rattle.pair_closure.specs.Reached.{Has}
+use Rattle.pair_closure.specs.Members.{before_last, last_at, ends_with}
 use Rattle.rule_universe.specs.Rows.{AreUpTo}
 
 -- all are below k where the last one isn't k

@@ -2,13 +2,12 @@
 use Rattle.std.specs.Prelude.{◌≡◌, ◌≢◌, ◌⊎◌, ◌↔◌, ◌<◌, ℕ, List, Some, None, Option, map, slice_get}
 use Rattle.std.specs.Prelude.{slice_set, length, refl}
 use Rattle.std.specs.Option.{option_map}
-use Rattle.std.proofs.Common.{inl, inr, arith, ap, sym, ◌∙◌, subst, length-set}
-use Rattle.std.proofs.Common.{get_or-set_other}
+use Rattle.std.proofs.Common.{inl, inr, arith, ap, sym, ◌∙◌, subst, length-set, get_or-set_other}
 use Rattle.std.proofs.lemmas.Option.{slice_get_within, slice_get-get_or, get_or_from_slice_get}
 use Rattle.std.proofs.lemmas.Option.{slice_get-map}
-use Rattle.rule_instances.specs.pair_closure.Reached.{Has}
-use Rattle.rule_instances.specs.pair_closure.Members.{some-inj, none_at}
-use Rattle.rule_instances.specs.pair_closure.Put.{same_or_not, set_same, other_back}
+use Rattle.pair_closure.specs.Reached.{Has}
+use Rattle.pair_closure.specs.Members.{some-inj, none_at}
+use Rattle.pair_closure.specs.Put.{same_or_not, set_same, other_back}
 use Rattle.rule_universe.specs.Rows.{InRow, AreUpTo, RowsUpTo, IsAdded}
 
 module _ {V : Type 0} (f : V → List ℕ) where

@@ -1,7 +1,7 @@
 -- A universe with other hypotheses.
 use Rattle.std.specs.Prelude.{◌≡◌, ℕ, List, Some, slice_get}
-use Rattle.derivation.specs.facts.declared.fact.Fact.{Fact}
-use Rattle.derivation.specs.facts.Order.{slot_of}
+use Rattle.facts.specs.declared.fact.Fact.{Fact}
+use Rattle.facts.specs.Order.{slot_of}
 use Rattle.rule_universe.specs.Worlds.{World, HasSlot}
 
 -- with these facts as its hypotheses

@@ -2,7 +2,7 @@
 use Rattle.std.specs.Prelude.{◌≡◌, ◌<◌, ◌+◌, ℕ, List, ◌∷◌, length, drop, slice_index_or}
 use Rattle.std.proofs.Common.{add-one}
 use Rattle.std.proofs.Math.Seq.{drop-cons}
-use Rattle.derivation.specs.facts.declared.fact.Slot.TheVariants as slot
+use Rattle.facts.specs.declared.fact.Slot.TheVariants as slot
 use Rattle.rule_universe.specs.declared.placed.Placed.{Placed}
 
 -- what stands behind the last one

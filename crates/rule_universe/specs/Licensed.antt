@@ -7,15 +7,15 @@ use Rattle.fx_model.specs.declared.ExprId.{ExprId}
 use Rattle.fx_model.specs.declared.Node.{Node}
 use Rattle.fx_model.specs.declared.Node.TheVariants as node
 use Rattle.fx_model.specs.Expression.{ChildrenBelow, IsOrdered, children_later}
-use Rattle.derivation.specs.expr_dag.Nodes.{IsAt}
-use Rattle.derivation.specs.facts.declared.fact.Slot.{Slot}
-use Rattle.derivation.specs.facts.declared.fact.Slot.TheVariants.{Nzr}
-use Rattle.derivation.specs.facts.declared.hint.Need.{Need}
-use Rattle.derivation.specs.facts.declared.hint.Need.TheVariants.{NotZero, Below, Above}
-use Rattle.derivation.specs.facts.declared.hint.HintRow.{HintRow}
-use Rattle.rule_instances.specs.pair_closure.Reached.{Has}
-use Rattle.rule_instances.specs.pair_closure.Closure.{Pair, AreKnown}
-use Rattle.derivation.specs.facts.declared.instance.Instance.{Instance}
+use Rattle.expr_dag.specs.Nodes.{IsAt}
+use Rattle.pair_closure.specs.Reached.{Has}
+use Rattle.pair_closure.specs.Closure.{Pair, AreKnown}
+use Rattle.facts.specs.declared.fact.Slot.{Slot}
+use Rattle.facts.specs.declared.fact.Slot.TheVariants.{Nzr}
+use Rattle.facts.specs.declared.hint.Need.{Need}
+use Rattle.facts.specs.declared.hint.Need.TheVariants.{NotZero, Below, Above}
+use Rattle.facts.specs.declared.hint.HintRow.{HintRow}
+use Rattle.facts.specs.declared.instance.Instance.{Instance}
 use Rattle.rule_instances.specs.Slots.{need_slot, conditions}
 use Rattle.rule_instances.specs.Instances.{OfAny, OfOperation, OfError, OfTerms, OfChain, OfPair}
 use Rattle.rule_instances.specs.Instances.{OfHint, IsInstance}

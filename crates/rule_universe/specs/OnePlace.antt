@@ -2,12 +2,12 @@
 use Rattle.std.specs.Prelude.{◌≡◌, ◌<◌, ◌+◌, ◌*◌, ℕ, List, length, slice_get, refl}
 use Rattle.std.proofs.Common.{arith, ap, sym, ◌∙◌}
 use Rattle.std.proofs.lemmas.Option.{slice_get_within}
-use Rattle.derivation.specs.facts.declared.fact.Slot.{Slot}
-use Rattle.derivation.specs.facts.declared.fact.Slot.TheVariants as slot
-use Rattle.rule_instances.specs.pair_closure.Reached.{IsEachOnce}
-use Rattle.rule_instances.specs.pair_closure.Closure.{Pair}
-use Rattle.rule_instances.specs.pair_closure.Members.{some-inj}
-use Rattle.rule_instances.specs.pair_closure.Ids.{id_of}
+use Rattle.pair_closure.specs.Reached.{IsEachOnce}
+use Rattle.pair_closure.specs.Closure.{Pair}
+use Rattle.pair_closure.specs.Members.{some-inj}
+use Rattle.pair_closure.specs.Ids.{id_of}
+use Rattle.facts.specs.declared.fact.Slot.{Slot}
+use Rattle.facts.specs.declared.fact.Slot.TheVariants as slot
 use Rattle.rule_universe.specs.Worlds.{IsSlot}
 use Rattle.rule_universe.specs.Places.{IsPlace, place_count}
 

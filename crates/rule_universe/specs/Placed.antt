@@ -1,8 +1,8 @@
 -- Slots with their places, and rows of them by instance.
 use Rattle.std.specs.Prelude.{◌≡◌, ◌++◌, ℕ, List, Some, length, slice_get, map, Contains}
-use Rattle.derivation.specs.facts.declared.fact.Slot.{Slot}
-use Rattle.derivation.specs.facts.declared.instance.Instance.{Instance}
-use Rattle.rule_instances.specs.pair_closure.Closure.{Pair}
+use Rattle.pair_closure.specs.Closure.{Pair}
+use Rattle.facts.specs.declared.fact.Slot.{Slot}
+use Rattle.facts.specs.declared.instance.Instance.{Instance}
 use Rattle.rule_universe.specs.declared.placed.Placed.{Placed}
 use Rattle.rule_universe.specs.Places.{IsPlace}
 

@@ -1,9 +1,9 @@
 -- Numbers of instances by places. Only private functions cite these.
 use Rattle.std.specs.Prelude.{◌≡◌, ◌↔◌, ◌⊎◌, ◌<◌, ◌≤◌, ℕ, List, Some, slice_get, length, Contains}
-use Rattle.derivation.specs.facts.declared.fact.Slot.{Slot}
-use Rattle.rule_instances.specs.pair_closure.Reached.{Has}
-use Rattle.rule_instances.specs.pair_closure.Closure.{Pair}
-use Rattle.derivation.specs.facts.declared.instance.Instance.{Instance}
+use Rattle.pair_closure.specs.Reached.{Has}
+use Rattle.pair_closure.specs.Closure.{Pair}
+use Rattle.facts.specs.declared.fact.Slot.{Slot}
+use Rattle.facts.specs.declared.instance.Instance.{Instance}
 use Rattle.rule_universe.specs.Places.{IsPlace, place_count}
 use Rattle.rule_universe.specs.Users.{AreRising}
 

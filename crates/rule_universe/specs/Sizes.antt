@@ -1,6 +1,6 @@
 -- How large a universe is.
 use Rattle.std.specs.Prelude.{◌≤◌, ◌+◌, ◌-◌, ◌^◌, ℕ, List, [], ◌∷◌, length}
-use Rattle.derivation.specs.facts.declared.instance.Instance.{Instance}
+use Rattle.facts.specs.declared.instance.Instance.{Instance}
 use Rattle.rule_universe.specs.Worlds.{World}
 
 -- how many premises the instances have together beyond four each

@@ -1,7 +1,7 @@
 -- Which instances take a slot.
 use Rattle.std.specs.Prelude.{◌≡◌, ◌↔◌, ◌<◌, ℕ, List, Some, slice_get, Contains}
-use Rattle.derivation.specs.facts.declared.fact.Slot.{Slot}
-use Rattle.derivation.specs.facts.declared.instance.Instance.{Instance}
+use Rattle.facts.specs.declared.fact.Slot.{Slot}
+use Rattle.facts.specs.declared.instance.Instance.{Instance}
 use Rattle.derivation.specs.Changes.{IsUser}
 
 -- each is below those behind it

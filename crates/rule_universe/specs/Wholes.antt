@@ -4,13 +4,13 @@ use Rattle.std.specs.Prelude.{slice_index_or, Contains, refl}
 use Rattle.std.specs.List.{AllByRecursion}
 use Rattle.std.proofs.Common.{arith, subst}
 use Rattle.fx_model.specs.Expression.{IsOrdered}
-use Rattle.derivation.specs.facts.declared.fact.Fact.{Fact}
-use Rattle.derivation.specs.facts.declared.fact.Slot.TheVariants as slot
-use Rattle.derivation.specs.facts.declared.hint.HintRow.{HintRow}
-use Rattle.derivation.specs.facts.Order.{slot_of}
-use Rattle.rule_instances.specs.pair_closure.Reached.{Has, IsEachOnce}
-use Rattle.rule_instances.specs.pair_closure.Closure.{AreKnown}
-use Rattle.derivation.specs.facts.declared.instance.Instance.{Instance}
+use Rattle.pair_closure.specs.Reached.{Has, IsEachOnce}
+use Rattle.pair_closure.specs.Closure.{AreKnown}
+use Rattle.facts.specs.declared.fact.Fact.{Fact}
+use Rattle.facts.specs.declared.fact.Slot.TheVariants as slot
+use Rattle.facts.specs.declared.hint.HintRow.{HintRow}
+use Rattle.facts.specs.Order.{slot_of}
+use Rattle.facts.specs.declared.instance.Instance.{Instance}
 use Rattle.rule_instances.specs.Slots.{rule}
 use Rattle.rule_instances.specs.Instances.{IsInstance}
 use Rattle.rule_instances.specs.Beside.{shrinking_beside}

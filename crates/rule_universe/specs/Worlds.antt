@@ -1,15 +1,15 @@
 -- What a universe has, and what each universe keeps.
 use Rattle.std.specs.Prelude.{◌≡◌, ◌<◌, ◌≤◌, ℕ, List, Some, length, slice_get, Contains, ⊤}
 use Rattle.fx_model.specs.declared.Node.{Node}
-use Rattle.derivation.specs.facts.declared.fact.Fact.{Fact}
-use Rattle.derivation.specs.facts.declared.fact.Slot.{Slot}
-use Rattle.derivation.specs.facts.declared.fact.Slot.TheVariants as slot
-use Rattle.derivation.specs.facts.declared.hint.HintRow.{HintRow}
-use Rattle.derivation.specs.facts.Order.{slot_of}
-use Rattle.rule_instances.specs.pair_closure.Reached.{Has, IsEachOnce}
-use Rattle.rule_instances.specs.pair_closure.Closure.{Pair}
-use Rattle.derivation.specs.facts.declared.instance.Instance.{Instance}
-use Rattle.derivation.specs.goals.declared.goal.Goal.{Goal}
+use Rattle.pair_closure.specs.Reached.{Has, IsEachOnce}
+use Rattle.pair_closure.specs.Closure.{Pair}
+use Rattle.facts.specs.declared.fact.Fact.{Fact}
+use Rattle.facts.specs.declared.fact.Slot.{Slot}
+use Rattle.facts.specs.declared.fact.Slot.TheVariants as slot
+use Rattle.facts.specs.declared.hint.HintRow.{HintRow}
+use Rattle.facts.specs.Order.{slot_of}
+use Rattle.facts.specs.declared.instance.Instance.{Instance}
+use Rattle.goals.specs.declared.goal.Goal.{Goal}
 use Rattle.derivation.specs.Derivations.{IsClosed}
 
 -- Expressions, pairs, goals, hypotheses as facts, rows of hints, instances of rules.

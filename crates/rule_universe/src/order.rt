@@ -4,8 +4,9 @@
 ghost use Rattle.std.specs.Prelude.{◌≡◌, ◌⊎◌, ◌≤◌, ℕ, length, Contains, IfOk};
 ghost use Rattle.rule_universe.specs.Ordered.{AreNumbersOf};
 
-use derivation::{Dag, Instance, Node, Slot};
-use fx_model::ExprId;
+use expr_dag::Dag;
+use facts::{Instance, Slot};
+use fx_model::{Node, ExprId};
 use std::alloc::{AllocError, Global};
 
 // How many levels there are, VOID's included.

@@ -1,15 +1,16 @@
 //! Slots of instances with their places.
 ghost use Rattle.std.specs.Prelude.{◌≡◌, ◌≤◌, ℕ, Some, length, slice_get, Contains, IfOk, OnOk};
-ghost use Rattle.derivation.specs.facts.declared.fact.Slot.{Slot};
-ghost use Rattle.derivation.specs.facts.declared.instance.Instance.{Instance};
+ghost use Rattle.facts.specs.declared.fact.Slot.{Slot};
+ghost use Rattle.facts.specs.declared.instance.Instance.{Instance};
 ghost use Rattle.rule_universe.specs.Worlds.{IsSlot};
 ghost use Rattle.rule_universe.specs.Places.{IsPlace};
 ghost use Rattle.rule_universe.specs.Placed.{AddsPlaced, ArePremises, AreTargets};
 
 use crate::flat_rows::{FlatRows, end_row};
 use crate::places::place_of;
-use derivation::{Dag, Instance, Slot};
-use rule_instances::PairIndex;
+use expr_dag::Dag;
+use facts::{Instance, Slot};
+use pair_closure::PairIndex;
 use std::alloc::{AllocError, Global};
 
 /// A slot with its place among all slots of a universe.

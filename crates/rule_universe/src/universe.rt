@@ -2,8 +2,8 @@
 
 ghost use Rattle.std.specs.Prelude.{◌≡◌, ◌<◌, ◌≤◌, Some, length, slice_get, IfOk};
 ghost use Rattle.fx_model.specs.Expression.{IsOrdered};
-ghost use Rattle.derivation.specs.facts.declared.fact.Slot.{Slot};
-ghost use Rattle.derivation.specs.facts.declared.instance.Instance.{Instance};
+ghost use Rattle.facts.specs.declared.fact.Slot.{Slot};
+ghost use Rattle.facts.specs.declared.instance.Instance.{Instance};
 ghost use Rattle.rule_universe.specs.Worlds.{World, IsWhole, HasSlot};
 ghost use Rattle.rule_universe.specs.Places.{IsPlace};
 ghost use Rattle.rule_universe.specs.Placed.{ArePlaced, AreTargets};
@@ -16,9 +16,11 @@ use crate::order::in_order;
 use crate::placed::{Placed, known_place, placed_premises, target_places};
 use crate::places::place_of;
 use crate::users::user_rows;
-use derivation::{Dag, Fact, Goal, HintRow, Instance, Slot};
+use expr_dag::Dag;
+use facts::{Fact, HintRow, Instance, Slot};
+use goals::Goal;
 use fx_model::ExprId;
-use rule_instances::PairIndex;
+use pair_closure::PairIndex;
 use std::alloc::{AllocError, Global};
 use std::marker::Model;
 
@@ -46,10 +48,10 @@ pub struct Universe {
 impl Model for Universe {
     ghost use Rattle.std.specs.Prelude.{◌≡◌, ◌≤◌, length};
     ghost use Rattle.std.specs.Coded.{codes};
-    ghost use Rattle.derivation.specs.facts.contracts.fact.Fact as fact_row;
-    ghost use Rattle.derivation.specs.facts.contracts.hint.HintRow as hint_row;
-    ghost use Rattle.derivation.specs.goals.contracts.goal.Goal as goal_row;
-    ghost use Rattle.derivation.specs.facts.contracts.instance.Instance as instance_row;
+    ghost use Rattle.facts.specs.contracts.fact.Fact as fact_row;
+    ghost use Rattle.facts.specs.contracts.hint.HintRow as hint_row;
+    ghost use Rattle.goals.specs.contracts.goal.Goal as goal_row;
+    ghost use Rattle.facts.specs.contracts.instance.Instance as instance_row;
     ghost use Rattle.rule_universe.specs.Worlds.{World, IsWhole};
     ghost use Rattle.rule_universe.specs.Placed.{ArePremises, AreTargets};
     ghost use Rattle.rule_universe.specs.Rows.{AreRows};

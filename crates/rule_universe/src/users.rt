@@ -2,14 +2,14 @@
 
 ghost use Rattle.std.specs.Prelude.{◌≡◌, ◌↔◌, ◌⊎◌, ◌<◌, ◌≤◌, ◌-◌, ℕ, List, [], IsTrue, length, map};
 ghost use Rattle.std.specs.Prelude.{IfOk, OnOk, slice_get, Some};
-ghost use Rattle.rule_instances.specs.pair_closure.Reached.{Has};
+ghost use Rattle.pair_closure.specs.Reached.{Has};
 ghost use Rattle.rule_universe.specs.Places.{IsPlace, place_count};
-ghost use Rattle.rule_universe.specs.Rows.{AreUpTo, RowsUpTo, IsAdded, IsPlaceOfOne};
-ghost use Rattle.rule_universe.specs.Rows.{AreRows};
+ghost use Rattle.rule_universe.specs.Rows.{AreUpTo, RowsUpTo, IsAdded, IsPlaceOfOne, AreRows};
 
 use crate::places::{place_count, place_of};
-use derivation::{Dag, Instance, Slot};
-use rule_instances::PairIndex;
+use expr_dag::Dag;
+use facts::{Instance, Slot};
+use pair_closure::PairIndex;
 use std::alloc::{AllocError, Global};
 
 // Whether a number is the last of a row.

@@ -1,14 +1,14 @@
 -- From the rounds over a parent's table with a piece to what holds of the box below.
 use Rattle.std.specs.Prelude.{ℕ, List, ◌∷◌}
-use Rattle.rule_universe.specs.facts.declared.fact.Fact.{Fact}
-use Rattle.rule_universe.specs.facts.declared.fact.Fact.TheVariants as fact
-use Rattle.rule_universe.specs.derivation.Lists.{IsLawful}
-use Rattle.rule_universe.specs.derivation.Derivations.{Setting, At, IsClosed}
-use Rattle.rule_universe.specs.derivation.Known.{Piece, IsTableAt}
-use Rattle.rule_universe.specs.derivation.Rounds.{IsSame, IsBestFrom, Improves}
-use Rattle.rule_universe.specs.derivation.Begun.{child_start, child_table}
-use Rattle.rule_universe.specs.derivation.Counted.{IsWithinSteps, IsWithinStepsFrom}
-use Rattle.rule_universe.specs.derivation.Counts.{child_heights}
+use Rattle.facts.specs.declared.fact.Fact.{Fact}
+use Rattle.facts.specs.declared.fact.Fact.TheVariants as fact
+use Rattle.derivation.specs.Lists.{IsLawful}
+use Rattle.derivation.specs.Derivations.{Setting, At, IsClosed}
+use Rattle.derivation.specs.Known.{Piece, IsTableAt}
+use Rattle.derivation.specs.Rounds.{IsSame, IsBestFrom, Improves}
+use Rattle.derivation.specs.Begun.{child_start, child_table}
+use Rattle.derivation.specs.Counted.{IsWithinSteps, IsWithinStepsFrom}
+use Rattle.derivation.specs.Counts.{child_heights}
 
 module _ (u : Setting) (lawful : IsLawful u.rules) (whole : IsClosed u.instances) (height : ℕ)
     (piece : Piece) (parent copy start : At) (same : IsSame parent copy)

@@ -1,21 +1,20 @@
 -- Tables from which the instances conclude nothing more, and those that differ from one on a slot.
-use Rattle.std.specs.Prelude.{◌≡◌, ◌≢◌, ◌⊎◌, ◌<◌, ℕ, Bool, true, List, Option, Some, None}
-use Rattle.std.specs.Prelude.{IfNone, IfSome, slice_get, Contains, refl}
+use Rattle.std.specs.Prelude.{◌≡◌, ◌≢◌, ◌⊎◌, ◌<◌, ℕ, Bool, true, List, Option, Some, None, IfNone}
+use Rattle.std.specs.Prelude.{IfSome, slice_get, Contains, refl}
 use Rattle.std.proofs.Common.{sym, ◌∙◌, ap, subst, inl, inr, arith}
 use Rattle.fx_model.specs.declared.ExprId.{ExprId}
-use Rattle.rule_universe.specs.facts.declared.fact.Fact.TheVariants as fact
-use Rattle.rule_universe.specs.facts.declared.fact.Slot.{Slot}
-use Rattle.rule_universe.specs.facts.declared.fact.Slot.TheVariants as slot
-use Rattle.rule_universe.specs.facts.Order.{slot_of}
-use Rattle.rule_universe.specs.facts.Laws.{IsStronger-trans}
-use Rattle.rule_universe.specs.pair_closure.Closure.{Pair}
-use Rattle.rule_universe.specs.derivation.Derivations.{Setting, At}
-use Rattle.rule_universe.specs.derivation.Rounds.{concluded, IsSame, IsAhead, AllSeen, Grows}
-use Rattle.rule_universe.specs.derivation.Rounds.{InTable, IsBestFrom}
-use Rattle.rule_universe.specs.derivation.Heights.{best_start, best_void}
-use Rattle.rule_universe.specs.derivation.Changes.{agrees_all, true_false}
-use Rattle.rule_universe.specs.derivation.Counts.{IsRisen}
-use Rattle.rule_universe.specs.derivation.Parts.{slot_cases, none_some}
+use Rattle.pair_closure.specs.Closure.{Pair}
+use Rattle.facts.specs.declared.fact.Fact.TheVariants as fact
+use Rattle.facts.specs.declared.fact.Slot.{Slot}
+use Rattle.facts.specs.declared.fact.Slot.TheVariants as slot
+use Rattle.facts.specs.Order.{slot_of}
+use Rattle.facts.specs.Laws.{IsStronger-trans}
+use Rattle.derivation.specs.Derivations.{Setting, At}
+use Rattle.derivation.specs.Rounds.{concluded, IsSame, IsAhead, AllSeen, Grows, InTable, IsBestFrom}
+use Rattle.derivation.specs.Heights.{best_start, best_void}
+use Rattle.derivation.specs.Changes.{agrees_all, true_false}
+use Rattle.derivation.specs.Counts.{IsRisen}
+use Rattle.derivation.specs.Parts.{slot_cases, none_some}
 use Rattle.rule_universe.specs.Places.{IsPlace}
 use Rattle.saturate.specs.declared.kept.Table.{Table}
 use Rattle.saturate.specs.Tables.{fact_at, IsShaped}

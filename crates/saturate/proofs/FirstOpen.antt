@@ -4,10 +4,10 @@ use Rattle.std.specs.Prelude.{length, if◌then◌else◌, refl}
 use Rattle.std.proofs.Common.{sym, ◌∙◌, ap, arith, drop, get_or, add-one}
 use Rattle.std.proofs.Math.Seq.{drop-cons}
 use Rattle.std.proofs.lemmas.List.{drop_all}
-use Rattle.rule_universe.specs.facts.declared.fact.Fact.{Fact}
-use Rattle.rule_universe.specs.facts.declared.fact.Slot.{Slot}
-use Rattle.rule_universe.specs.goals.declared.goal.Goal.{Goal}
-use Rattle.rule_universe.specs.derivation.Decided.{is_settled, one_later, first_open}
+use Rattle.facts.specs.declared.fact.Fact.{Fact}
+use Rattle.facts.specs.declared.fact.Slot.{Slot}
+use Rattle.goals.specs.declared.goal.Goal.{Goal}
+use Rattle.derivation.specs.Decided.{is_settled, one_later, first_open}
 
 -- so many places later
 abbrev pub later_by : ℕ → Option ℕ → Option ℕ

@@ -7,12 +7,12 @@ use Rattle.std.specs.List.{Contains}
 use Rattle.std.proofs.lemmas.List.{length-map}
 use Rattle.std.proofs.lemmas.Bool.{and_parts}
 use Rattle.fx_model.specs.declared.ExprId.{ExprId}
-use Rattle.rule_universe.specs.facts.declared.fact.Slot.{Slot}
-use Rattle.rule_universe.specs.facts.declared.fact.Slot.TheVariants as slot
-use Rattle.rule_universe.specs.facts.Order.{is_same}
-use Rattle.rule_universe.specs.facts.CommonParts.{expr_same}
-use Rattle.rule_universe.specs.pair_closure.Closure.{Pair}
-use Rattle.rule_universe.specs.pair_closure.Reached.{IsEachOnce}
+use Rattle.pair_closure.specs.Closure.{Pair}
+use Rattle.pair_closure.specs.Reached.{IsEachOnce}
+use Rattle.facts.specs.declared.fact.Slot.{Slot}
+use Rattle.facts.specs.declared.fact.Slot.TheVariants as slot
+use Rattle.facts.specs.Order.{is_same}
+use Rattle.facts.specs.CommonParts.{expr_same}
 use Rattle.rule_universe.specs.declared.placed.Placed.{Placed}
 use Rattle.rule_universe.specs.Worlds.{IsSlot}
 use Rattle.rule_universe.specs.Places.{IsPlace}

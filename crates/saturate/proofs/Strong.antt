@@ -1,12 +1,12 @@
 -- Whether what a table has is as strong as a fact.
-use Rattle.std.specs.Prelude.{◌≡◌, ◌↔◌, ◌<◌, ℕ, Bool, true, false, List, Option, Some, None}
-use Rattle.std.specs.Prelude.{IsTrue, length, slice_get, slice_index_or, refl}
+use Rattle.std.specs.Prelude.{◌≡◌, ◌↔◌, ◌<◌, ℕ, Bool, true, false, List, Option, Some, None, IsTrue}
+use Rattle.std.specs.Prelude.{length, slice_get, slice_index_or, refl}
 use Rattle.std.proofs.Common.{sym, ◌∙◌, ap, subst}
 use Rattle.std.proofs.lemmas.Option.{slice_get-get_or}
 use Rattle.fx_model.specs.declared.ExprId.{ExprId}
-use Rattle.rule_universe.specs.facts.declared.fact.Fact.{Fact}
-use Rattle.rule_universe.specs.facts.declared.fact.Fact.TheVariants as fact
-use Rattle.rule_universe.specs.facts.Order.{IsStronger}
+use Rattle.facts.specs.declared.fact.Fact.{Fact}
+use Rattle.facts.specs.declared.fact.Fact.TheVariants as fact
+use Rattle.facts.specs.Order.{IsStronger}
 use Rattle.saturate.specs.Tables.{nzr_fact, IsAsStrong}
 
 -- the element with this number

@@ -1,43 +1,41 @@
 -- The table of a sweep: what a conclusion leaves of it, and what it is where no instance is due.
+use lib.ListN.{replicate}
 use Rattle.std.specs.Prelude.{◌≡◌, ◌≢◌, ◌⊎◌, ◌<◌, ◌≤◌, ◌+◌, ◌-◌, ℕ, zero, suc, Bool, true, false}
 use Rattle.std.specs.Prelude.{List, [], ◌∷◌, Some, None, length, slice_get, slice_set, Contains}
 use Rattle.std.specs.Prelude.{refl}
 use Rattle.std.proofs.Common.{sym, ◌∙◌, ap, subst, inl, inr, arith, get_or, length-set}
-use lib.ListN.{replicate}
 use Rattle.std.proofs.lemmas.Bool.Decides.{eqb_tells}
 use Rattle.std.proofs.lemmas.Option.{slice_get_within, slice_get-get_or}
-use Rattle.rule_universe.specs.facts.declared.fact.Fact.{Fact}
-use Rattle.rule_universe.specs.facts.declared.fact.Fact.TheVariants as fact
-use Rattle.rule_universe.specs.facts.declared.fact.Slot.{Slot}
-use Rattle.rule_universe.specs.facts.declared.fact.Slot.TheVariants as slot
-use Rattle.rule_universe.specs.facts.declared.instance.Instance.{Instance}
-use Rattle.rule_universe.specs.facts.Order.{slot_of, IsStronger}
-use Rattle.rule_universe.specs.facts.Laws.{IsStronger-refl, IsStronger-trans}
-use Rattle.rule_universe.specs.facts.Meets.{IsStronger-antisymm}
-use Rattle.rule_universe.specs.facts.Promises.{EachStronger}
-use Rattle.rule_universe.specs.pair_closure.Reached.{IsEachOnce}
-use Rattle.rule_universe.specs.derivation.Lists.{IsLawful, RuleList, IsOnTargetList}
-use Rattle.rule_universe.specs.pair_closure.Closure.{Pair}
-use Rattle.rule_universe.specs.derivation.Derivations.{Setting, Derives, DeriveEach, given, drawn}
-use Rattle.rule_universe.specs.derivation.Derivations.{met}
-use Rattle.rule_universe.specs.derivation.Derivations.{none, next, At, Beats, IsClosed}
-use Rattle.rule_universe.specs.derivation.Rounds.{IsProper, IsSame, Reads, InTable, Grows, Improves}
-use Rattle.rule_universe.specs.derivation.Rounds.{all_at}
-use Rattle.rule_universe.specs.derivation.Rounds.{concluded, conclusion, IsBestFrom}
-use Rattle.rule_universe.specs.derivation.Changes.{IsUser, IsQuiet, agrees_all, true_false}
-use Rattle.rule_universe.specs.derivation.Heights.{Derives-add}
-use Rattle.rule_universe.specs.derivation.Parts.{some_same, none_some, slot_cases, not_void}
-use Rattle.rule_universe.specs.derivation.Parts.{beats_weaker, beats_meet, conclusion_reads}
-use Rattle.rule_universe.specs.derivation.Parts.{reads_conclusion}
-use Rattle.rule_universe.specs.derivation.Steps.{kept_cases, improved_stronger, improved_slot}
-use Rattle.rule_universe.specs.derivation.Steps.{improved_beats, improved_grows}
+use Rattle.pair_closure.specs.Reached.{IsEachOnce}
+use Rattle.pair_closure.specs.Closure.{Pair}
+use Rattle.facts.specs.declared.fact.Fact.{Fact}
+use Rattle.facts.specs.declared.fact.Fact.TheVariants as fact
+use Rattle.facts.specs.declared.fact.Slot.{Slot}
+use Rattle.facts.specs.declared.fact.Slot.TheVariants as slot
+use Rattle.facts.specs.declared.instance.Instance.{Instance}
+use Rattle.facts.specs.Order.{slot_of, IsStronger}
+use Rattle.facts.specs.Laws.{IsStronger-refl, IsStronger-trans}
+use Rattle.facts.specs.Meets.{IsStronger-antisymm}
+use Rattle.facts.specs.Promises.{EachStronger}
+use Rattle.derivation.specs.Lists.{IsLawful, RuleList, IsOnTargetList}
+use Rattle.derivation.specs.Derivations.{Setting, Derives, DeriveEach, given, drawn, met, none}
+use Rattle.derivation.specs.Derivations.{next, At, Beats, IsClosed}
+use Rattle.derivation.specs.Rounds.{IsProper, IsSame, Reads, InTable, Grows, Improves, all_at}
+use Rattle.derivation.specs.Rounds.{concluded, conclusion, IsBestFrom}
+use Rattle.derivation.specs.Changes.{IsUser, IsQuiet, agrees_all, true_false}
+use Rattle.derivation.specs.Heights.{Derives-add}
+use Rattle.derivation.specs.Parts.{some_same, none_some, slot_cases, not_void, beats_weaker}
+use Rattle.derivation.specs.Parts.{beats_meet, conclusion_reads, reads_conclusion}
+use Rattle.derivation.specs.Steps.{kept_cases, improved_stronger, improved_slot, improved_beats}
+use Rattle.derivation.specs.Steps.{improved_grows}
 use Rattle.rule_universe.specs.declared.placed.Placed.{Placed}
 use Rattle.rule_universe.specs.Places.{IsPlace, place_count}
 use Rattle.rule_universe.specs.Placed.{slots_of, ArePlaced}
 use Rattle.rule_universe.specs.OnePlace.{place_within, place_once, slot_once}
+use Rattle.rule_universe.specs.Worlds.{World}
 use Rattle.saturate.specs.declared.kept.Table.{Table}
 use Rattle.saturate.specs.Tables.{fact_at, IsShaped}
-use Rattle.saturate.specs.Universes.{World, HasAllPlaces}
+use Rattle.saturate.specs.Universes.{HasAllPlaces}
 use Rattle.saturate.specs.Closed.{IsClosedUnder}
 use Rattle.saturate.specs.Lists.{get_set_here, get_set_there}
 use Rattle.saturate.specs.Sweeping.{IsSwept, IsSweeping, IsQuietApart, NoneDue}

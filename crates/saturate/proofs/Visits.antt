@@ -4,26 +4,26 @@ use Rattle.std.specs.Prelude.{refl}
 use Rattle.std.proofs.Common.{sym, ◌∙◌, ap, subst, inl, inr, rules}
 use Rattle.std.proofs.lemmas.List.{map-append}
 use Rattle.std.proofs.lemmas.List.Elements.{Contains-push, Contains-push_cases}
-use Rattle.rule_universe.specs.facts.declared.fact.Fact.{Fact}
-use Rattle.rule_universe.specs.facts.declared.fact.Slot.{Slot}
-use Rattle.rule_universe.specs.facts.declared.fact.Fact.TheVariants as fact
-use Rattle.rule_universe.specs.facts.declared.fact.Slot.TheVariants as slot
-use Rattle.rule_universe.specs.facts.Order.{slot_of, IsStronger, meet_of}
-use Rattle.rule_universe.specs.facts.Laws.{IsStronger-slot, IsStronger-trans}
-use Rattle.rule_universe.specs.facts.Meets.{meet-IsMeet}
-use Rattle.rule_universe.specs.derivation.Lists.{RuleList, IsOnTargetList}
-use Rattle.rule_universe.specs.facts.declared.instance.Instance.{Instance}
-use Rattle.rule_universe.specs.derivation.Derivations.{At}
-use Rattle.rule_universe.specs.derivation.Rounds.{conclusion, Grows, IsKept, Improves}
-use Rattle.rule_universe.specs.derivation.Changes.{IsListed}
-use Rattle.rule_universe.specs.derivation.Counts.{IsRisen, risen_after}
-use Rattle.rule_universe.specs.derivation.Parts.{conclusion_reads, slot_cases, stronger_slot}
-use Rattle.saturate.specs.declared.kept.Table.{Table}
+use Rattle.facts.specs.declared.fact.Fact.{Fact}
+use Rattle.facts.specs.declared.fact.Slot.{Slot}
+use Rattle.facts.specs.declared.fact.Fact.TheVariants as fact
+use Rattle.facts.specs.declared.fact.Slot.TheVariants as slot
+use Rattle.facts.specs.Order.{slot_of, IsStronger, meet_of}
+use Rattle.facts.specs.Laws.{IsStronger-slot, IsStronger-trans}
+use Rattle.facts.specs.Meets.{meet-IsMeet}
+use Rattle.facts.specs.declared.instance.Instance.{Instance}
+use Rattle.facts.specs.CommonParts.{void_cases}
+use Rattle.derivation.specs.Lists.{RuleList, IsOnTargetList}
+use Rattle.derivation.specs.Derivations.{At}
+use Rattle.derivation.specs.Rounds.{conclusion, Grows, IsKept, Improves}
+use Rattle.derivation.specs.Changes.{IsListed}
+use Rattle.derivation.specs.Counts.{IsRisen, risen_after}
+use Rattle.derivation.specs.Parts.{conclusion_reads, slot_cases, stronger_slot}
 use Rattle.rule_universe.specs.declared.placed.Placed.{Placed}
 use Rattle.rule_universe.specs.Placed.{slots_of}
+use Rattle.saturate.specs.declared.kept.Table.{Table}
 use Rattle.saturate.specs.Tables.{fact_at, HasPlace, IsFoundAt, IsAsStrong}
 use Rattle.saturate.proofs.Places.{fact_at_proper}
-use Rattle.rule_universe.specs.facts.CommonParts.{void_cases}
 
 -- ---- places
 -- what a fact on another's slot, or VOID, finds

@@ -1,34 +1,34 @@
 -- The two tables of a round, from its start to its end.
-use Rattle.std.specs.Prelude.{◌≡◌, ◌≢◌, ◌<◌, ◌+◌, ◌++◌, ℕ, Bool, true, false, List, [], ◌∷◌}
-use Rattle.std.specs.Prelude.{Some, None, length, slice_get, Contains, IsTrue, refl, if◌then◌else◌}
+use Rattle.std.specs.Prelude.{◌≡◌, ◌≢◌, ◌<◌, ◌+◌, ◌++◌, ℕ, Bool, true, false, List, [], ◌∷◌, Some}
+use Rattle.std.specs.Prelude.{None, length, slice_get, Contains, IsTrue, refl, if◌then◌else◌}
 use Rattle.std.proofs.Common.{sym, ◌∙◌, ap, subst, inl, inr, arith}
 use Rattle.std.proofs.lemmas.Bool.{cases_lt}
 use Rattle.std.proofs.lemmas.Option.{slice_get_within}
 use Rattle.std.proofs.lemmas.List.Elements.{Contains-push_cases, Contains-append_left}
-use Rattle.rule_universe.specs.facts.declared.fact.Fact.{Fact}
-use Rattle.rule_universe.specs.facts.declared.fact.Fact.TheVariants as fact
-use Rattle.rule_universe.specs.facts.declared.fact.Slot.{Slot}
-use Rattle.rule_universe.specs.facts.declared.fact.Slot.TheVariants as slot
-use Rattle.rule_universe.specs.facts.declared.instance.Instance.{Instance}
-use Rattle.rule_universe.specs.facts.Order.{slot_of}
-use Rattle.rule_universe.specs.facts.Laws.{IsStronger-trans}
-use Rattle.rule_universe.specs.derivation.Derivations.{Setting, At, Beats}
-use Rattle.rule_universe.specs.derivation.Rounds.{conclusion, IsAhead, IsSame, AllSeen, Improves}
-use Rattle.rule_universe.specs.derivation.Changes.{IsListed}
-use Rattle.rule_universe.specs.derivation.Counts.{IsRisen, AreRisen}
-use Rattle.rule_universe.specs.derivation.Ahead.{ahead_begin, ahead_fewer, ahead_next, ahead_step}
-use Rattle.rule_universe.specs.derivation.Ahead.{ahead_void}
-use Rattle.rule_universe.specs.derivation.Parts.{none_some, slot_cases}
+use Rattle.facts.specs.declared.fact.Fact.{Fact}
+use Rattle.facts.specs.declared.fact.Fact.TheVariants as fact
+use Rattle.facts.specs.declared.fact.Slot.{Slot}
+use Rattle.facts.specs.declared.fact.Slot.TheVariants as slot
+use Rattle.facts.specs.declared.instance.Instance.{Instance}
+use Rattle.facts.specs.Order.{slot_of}
+use Rattle.facts.specs.Laws.{IsStronger-trans}
+use Rattle.derivation.specs.Derivations.{Setting, At, Beats}
+use Rattle.derivation.specs.Rounds.{conclusion, IsAhead, IsSame, AllSeen, Improves}
+use Rattle.derivation.specs.Changes.{IsListed}
+use Rattle.derivation.specs.Counts.{IsRisen, AreRisen}
+use Rattle.derivation.specs.Ahead.{ahead_begin, ahead_fewer, ahead_next, ahead_step, ahead_void}
+use Rattle.derivation.specs.Parts.{none_some, slot_cases}
 use Rattle.rule_universe.specs.declared.placed.Placed.{Placed}
 use Rattle.rule_universe.specs.Placed.{slots_of, IsPlaced}
+use Rattle.rule_universe.specs.Worlds.{World}
 use Rattle.saturate.specs.declared.kept.Table.{Table}
 use Rattle.saturate.specs.declared.kept.Tables.{Tables}
 use Rattle.saturate.specs.Tables.{fact_at, IsShaped}
-use Rattle.saturate.specs.Universes.{World, HasAllPlaces}
+use Rattle.saturate.specs.Universes.{HasAllPlaces}
 use Rattle.saturate.specs.Closed.{IsClosedUnder, IsMarked}
 use Rattle.saturate.specs.Keeping.{InTurn, IsWhole}
-use Rattle.saturate.specs.Working.{IsKnown, AreKnown, AreReady, AreAtWork, AreGoing}
-use Rattle.saturate.specs.Working.{AreGathered, HasComeTo}
+use Rattle.saturate.specs.Working.{IsKnown, AreKnown, AreReady, AreAtWork, AreGoing, AreGathered}
+use Rattle.saturate.specs.Working.{HasComeTo}
 use Rattle.saturate.specs.Lists.{none_in}
 use Rattle.saturate.proofs.Places.{fact_at_proper}
 use Rattle.saturate.proofs.Slots.{shaped_room, contains_slot}

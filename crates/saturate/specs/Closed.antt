@@ -1,13 +1,13 @@
 -- Tables from which the instances conclude nothing more.
 use Rattle.std.specs.Prelude.{◌≡◌, ℕ, Bool, true, List, Option, Some, None, IsTrue, slice_get}
 use Rattle.std.specs.Borrow.{Bor}
-use Rattle.rule_universe.specs.facts.declared.fact.Fact.{Fact}
-use Rattle.rule_universe.specs.facts.declared.fact.Slot.{Slot}
-use Rattle.rule_universe.specs.facts.declared.fact.Slot.TheVariants as slot
-use Rattle.rule_universe.specs.facts.declared.instance.Instance.{Instance}
-use Rattle.rule_universe.specs.derivation.Derivations.{Setting, At, Beats}
-use Rattle.rule_universe.specs.derivation.Rounds.{conclusion}
-use Rattle.rule_universe.specs.derivation.Changes.{IsUser, IsQuiet}
+use Rattle.facts.specs.declared.fact.Fact.{Fact}
+use Rattle.facts.specs.declared.fact.Slot.{Slot}
+use Rattle.facts.specs.declared.fact.Slot.TheVariants as slot
+use Rattle.facts.specs.declared.instance.Instance.{Instance}
+use Rattle.derivation.specs.Derivations.{Setting, At, Beats}
+use Rattle.derivation.specs.Rounds.{conclusion}
+use Rattle.derivation.specs.Changes.{IsUser, IsQuiet}
 use Rattle.saturate.specs.declared.kept.Table.{Table}
 use Rattle.saturate.specs.Tables.{fact_at}
 

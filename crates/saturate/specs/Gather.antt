@@ -2,12 +2,12 @@
 use Rattle.std.specs.Prelude.{◌≡◌, List, [], ◌∷◌, ◌++◌, Option, Some, None, refl}
 use Rattle.std.proofs.Common.{sym, ap, ◌∙◌, append_assoc}
 use Rattle.std.proofs.lemmas.List.{append-nil}
-use Rattle.rule_universe.specs.facts.declared.fact.Fact.{Fact}
-use Rattle.rule_universe.specs.facts.declared.fact.Slot.{Slot}
-use Rattle.rule_universe.specs.facts.declared.instance.Instance.{Instance}
-use Rattle.rule_universe.specs.derivation.Lists.{RuleList}
-use Rattle.rule_universe.specs.derivation.Derivations.{At}
-use Rattle.rule_universe.specs.derivation.Rounds.{all_at, with_first, concluded, conclusion}
+use Rattle.facts.specs.declared.fact.Fact.{Fact}
+use Rattle.facts.specs.declared.fact.Slot.{Slot}
+use Rattle.facts.specs.declared.instance.Instance.{Instance}
+use Rattle.derivation.specs.Lists.{RuleList}
+use Rattle.derivation.specs.Derivations.{At}
+use Rattle.derivation.specs.Rounds.{all_at, with_first, concluded, conclusion}
 
 -- these facts, before the ones that are there
 abbrev pub after : List Fact → Option (List Fact) → Option (List Fact)

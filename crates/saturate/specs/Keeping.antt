@@ -1,19 +1,19 @@
 -- What a round leads to, whatever keeps what its instances conclude.
 use Rattle.std.specs.Prelude.{◌≡◌, ◌≤◌, ℕ, zero, suc, Bool, true, false, List, Option, Some, None}
 use Rattle.std.specs.Prelude.{length, slice_get, Contains}
-use Rattle.rule_universe.specs.facts.declared.fact.Fact.{Fact}
-use Rattle.rule_universe.specs.facts.declared.fact.Slot.TheVariants as slot
-use Rattle.rule_universe.specs.facts.declared.fact.Fact.TheVariants as fact
-use Rattle.rule_universe.specs.facts.declared.instance.Instance.{Instance}
-use Rattle.rule_universe.specs.derivation.Derivations.{Setting, At, Beats}
-use Rattle.rule_universe.specs.derivation.Rounds.{conclusion, IsAhead, AllSeen}
-use Rattle.rule_universe.specs.derivation.Changes.{IsListed}
-use Rattle.rule_universe.specs.derivation.Counts.{AreRisen}
+use Rattle.facts.specs.declared.fact.Fact.{Fact}
+use Rattle.facts.specs.declared.fact.Slot.TheVariants as slot
+use Rattle.facts.specs.declared.fact.Fact.TheVariants as fact
+use Rattle.facts.specs.declared.instance.Instance.{Instance}
+use Rattle.derivation.specs.Derivations.{Setting, At, Beats}
+use Rattle.derivation.specs.Rounds.{conclusion, IsAhead, AllSeen}
+use Rattle.derivation.specs.Changes.{IsListed}
+use Rattle.derivation.specs.Counts.{AreRisen}
 use Rattle.rule_universe.specs.declared.placed.Placed.{Placed}
 use Rattle.rule_universe.specs.Placed.{slots_of, IsPlaced}
 use Rattle.rule_universe.specs.Places.{IsPlace}
+use Rattle.rule_universe.specs.Worlds.{World}
 use Rattle.saturate.specs.Rules.{Rules}
-use Rattle.saturate.specs.Universes.{World}
 
 -- ---- one instance
 -- The instance with this number concludes c from the table, and this is its target's place.

@@ -1,19 +1,19 @@
 -- Lists by number, marks and changes.
+use lib.ListN.{replicate}
 use Rattle.std.specs.Prelude.{◌≡◌, ◌⊎◌, ◌<◌, ◌+◌, ℕ, Bool, true, false, List, [], ◌∷◌, ◌++◌, length}
 use Rattle.std.specs.Prelude.{Some, slice_get, slice_set, Contains, refl, ◌≢◌}
 use Rattle.std.proofs.Common.{sym, ◌∙◌, ap, subst, inl, inr, arith, get_or, take, drop, add-one}
 use Rattle.std.proofs.Common.{zero, suc}
-use lib.ListN.{replicate}
 use Rattle.std.proofs.lemmas.List.{drop_all, take_all, append-nil}
 use Rattle.std.proofs.Math.Seq.{take-suc}
 use Rattle.std.proofs.lemmas.List.Elements.{Contains-push, Contains-push_cases}
 use Rattle.std.proofs.lemmas.List.Elements.{Contains-append_left}
 use Rattle.std.proofs.lemmas.Option.{slice_get_read, slice_get_cases}
-use Rattle.rule_universe.specs.facts.declared.fact.Slot.{Slot}
-use Rattle.rule_universe.specs.derivation.Derivations.{At}
-use Rattle.rule_universe.specs.derivation.Rounds.{IsSame}
-use Rattle.rule_universe.specs.derivation.Changes.{IsListed}
-use Rattle.rule_universe.specs.facts.declared.instance.Instance.{Instance}
+use Rattle.facts.specs.declared.fact.Slot.{Slot}
+use Rattle.facts.specs.declared.instance.Instance.{Instance}
+use Rattle.derivation.specs.Derivations.{At}
+use Rattle.derivation.specs.Rounds.{IsSame}
+use Rattle.derivation.specs.Changes.{IsListed}
 
 -- ---- lists by number
 pub item_at : {X : Type 0} (items all : List X) (k : ℕ) (x : X) → items ≡ all → k < length items

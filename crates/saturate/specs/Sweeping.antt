@@ -1,21 +1,21 @@
 -- The table of a sweep, where instances are applied to the table itself. Only private functions
 -- cite these.
 use Rattle.std.specs.Prelude.{◌≡◌, ◌≢◌, ◌≤◌, ◌+◌, ◌-◌, ℕ, Bool, true, false, List, Option, Some}
-use Rattle.std.specs.Prelude.{None}
-use Rattle.std.specs.Prelude.{length, slice_get, Contains}
-use Rattle.rule_universe.specs.facts.declared.fact.Fact.{Fact}
-use Rattle.rule_universe.specs.facts.declared.fact.Slot.{Slot}
-use Rattle.rule_universe.specs.facts.declared.fact.Slot.TheVariants as slot
-use Rattle.rule_universe.specs.facts.declared.instance.Instance.{Instance}
-use Rattle.rule_universe.specs.derivation.Derivations.{Setting, At, Beats, Derives}
-use Rattle.rule_universe.specs.derivation.Rounds.{InTable, Grows, conclusion}
-use Rattle.rule_universe.specs.derivation.Changes.{IsQuiet}
-use Rattle.rule_universe.specs.derivation.Counted.{AreHeights, touched_by}
+use Rattle.std.specs.Prelude.{None, length, slice_get, Contains}
+use Rattle.facts.specs.declared.fact.Fact.{Fact}
+use Rattle.facts.specs.declared.fact.Slot.{Slot}
+use Rattle.facts.specs.declared.fact.Slot.TheVariants as slot
+use Rattle.facts.specs.declared.instance.Instance.{Instance}
+use Rattle.derivation.specs.Derivations.{Setting, At, Beats, Derives}
+use Rattle.derivation.specs.Rounds.{InTable, Grows, conclusion}
+use Rattle.derivation.specs.Changes.{IsQuiet}
+use Rattle.derivation.specs.Counted.{AreHeights, touched_by}
 use Rattle.rule_universe.specs.declared.placed.Placed.{Placed}
 use Rattle.rule_universe.specs.Places.{IsPlace, place_count}
+use Rattle.rule_universe.specs.Worlds.{World}
 use Rattle.saturate.specs.declared.kept.Table.{Table}
 use Rattle.saturate.specs.Tables.{fact_at}
-use Rattle.saturate.specs.Universes.{World, HasAllPlaces}
+use Rattle.saturate.specs.Universes.{HasAllPlaces}
 
 -- By place of a slot, a height within which its fact is derived from the facts of the first table.
 abbrev pub AreWithin : Setting → World → At → At → List ℕ → Type 0

@@ -1,15 +1,16 @@
 -- The two tables of a round. Only private functions cite these.
 use Rattle.std.specs.Prelude.{◌≡◌, ◌⊎◌, ◌<◌, ℕ, List, None, length, Contains}
-use Rattle.rule_universe.specs.facts.declared.fact.Slot.TheVariants as slot
-use Rattle.rule_universe.specs.derivation.Derivations.{Setting}
-use Rattle.rule_universe.specs.derivation.Rounds.{IsAhead, IsSame, AllSeen}
-use Rattle.rule_universe.specs.derivation.Changes.{IsListed}
-use Rattle.rule_universe.specs.derivation.Counts.{AreRisen}
+use Rattle.facts.specs.declared.fact.Slot.TheVariants as slot
+use Rattle.derivation.specs.Derivations.{Setting}
+use Rattle.derivation.specs.Rounds.{IsAhead, IsSame, AllSeen}
+use Rattle.derivation.specs.Changes.{IsListed}
+use Rattle.derivation.specs.Counts.{AreRisen}
 use Rattle.rule_universe.specs.declared.placed.Placed.{Placed}
 use Rattle.rule_universe.specs.Placed.{slots_of, IsPlaced}
+use Rattle.rule_universe.specs.Worlds.{World}
 use Rattle.saturate.specs.declared.kept.Tables.{Tables}
 use Rattle.saturate.specs.Tables.{fact_at}
-use Rattle.saturate.specs.Universes.{World, HasAllPlaces}
+use Rattle.saturate.specs.Universes.{HasAllPlaces}
 use Rattle.saturate.specs.Keeping.{IsWhole}
 
 -- It has the place of its slot, or its slot is VOID.

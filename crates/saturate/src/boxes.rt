@@ -1,6 +1,6 @@
 //! The table of a box.
 ghost use Rattle.std.specs.Prelude.{◌≡◌, ◌<◌, IfOk, List, length};
-ghost use Rattle.rule_universe.specs.derivation.Known.{Piece, IsTableAt};
+ghost use Rattle.derivation.specs.Known.{Piece, IsTableAt};
 ghost use Rattle.saturate.specs.Tables.{fact_at};
 ghost use Rattle.saturate.specs.Universes.{setting_by, setting_of, HasAllPlaces};
 ghost use Rattle.saturate.specs.Closed.{IsMarked, IsMarkedParent};
@@ -18,7 +18,10 @@ use crate::rounds::{rounds, rounds_from};
 use crate::settled::Settled;
 use crate::steps::Steps;
 use fx_model::ExprId;
-use rule_universe::{Fact, Interval, Universe, boxes_come_to_one_state};
+use facts::Fact;
+use interval::Interval;
+use rule_universe::Universe;
+use derivation::boxes_come_to_one_state;
 use std::alloc::{AllocError, Global};
 use std::marker::Brand;
 use std::sync::ledger::{Blank, Ledger};

@@ -1,11 +1,12 @@
 //! Who gives conclusions, and how often it was asked.
 ghost use Rattle.std.specs.Prelude.{◌≡◌, ◌+◌, ℕ, List};
 ghost use Rattle.fx_model.specs.declared.Node.{Node};
-ghost use Rattle.rule_universe.specs.facts.declared.hint.HintRow.{HintRow};
-ghost use Rattle.rule_universe.specs.derivation.Lists.{IsLawful};
+ghost use Rattle.facts.specs.declared.hint.HintRow.{HintRow};
+ghost use Rattle.derivation.specs.Lists.{IsLawful};
 ghost use Rattle.saturate.specs.Rules.{Rules};
 
-use rule_universe::{Dag, Fact, HintRow, Instance};
+use expr_dag::Dag;
+use facts::{Fact, HintRow, Instance};
 
 /// Gives what rules conclude, and counts how often it was asked. Code that takes any such type
 /// can't know which rules these are, so each conclusion that it has was asked for here, and was

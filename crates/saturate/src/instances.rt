@@ -1,9 +1,10 @@
 // An instance of the universe, and the place of its target.
 ghost use Rattle.std.specs.Prelude.{◌≡◌, ◌<◌, Some, length, slice_get};
-ghost use Rattle.rule_universe.specs.facts.declared.instance.Instance.{Instance as Applied};
+ghost use Rattle.facts.specs.declared.instance.Instance.{Instance as Applied};
 ghost use Rattle.rule_universe.specs.Places.{IsPlace};
 
-use rule_universe::{Instance, Universe};
+use facts::Instance;
+use rule_universe::Universe;
 
 /// The instance with this number, counted from 0.
 #[inline(always)]

@@ -1,12 +1,12 @@
 //! What a box with a best table comes to.
 ghost use Rattle.std.specs.Prelude.{◌≡◌, ◌≤◌, length};
-ghost use Rattle.rule_universe.specs.derivation.Decided.{is_settled, first_open, state_in};
+ghost use Rattle.derivation.specs.Decided.{is_settled, first_open, state_in};
 ghost use Rattle.saturate.specs.Tables.{fact_at};
 ghost use Rattle.saturate.specs.Boxes.{table_of, state_of};
 
 use crate::kept::Table;
 use crate::settled::Settled;
-use rule_universe::{Goal, has_wanted};
+use goals::{Goal, has_wanted};
 
 // Whether the table's fact on the goal's slot is what is wanted.
 fn is_settled(table: &Table, goal: Goal) -> bool

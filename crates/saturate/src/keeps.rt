@@ -1,15 +1,17 @@
 //! What becomes of what the instances of a round conclude.
 ghost use Rattle.std.specs.Prelude.{◌≡◌, ◌+◌, ℕ, suc, List, [], None, IfOk, OnOk, length};
-ghost use Rattle.rule_universe.specs.facts.declared.fact.Slot.TheVariants as slot;
+ghost use Rattle.facts.specs.declared.fact.Slot.TheVariants as slot;
+ghost use Rattle.derivation.specs.Derivations.{At};
+ghost use Rattle.derivation.specs.Rounds.{IsProper};
 ghost use Rattle.rule_universe.specs.declared.placed.Placed.{Placed as Placement};
 ghost use Rattle.rule_universe.specs.Placed.{IsPlaced};
-ghost use Rattle.rule_universe.specs.derivation.Derivations.{At};
-ghost use Rattle.rule_universe.specs.derivation.Rounds.{IsProper};
-ghost use Rattle.saturate.specs.Universes.{World, setting_by};
+ghost use Rattle.rule_universe.specs.Worlds.{World};
+ghost use Rattle.saturate.specs.Universes.{setting_by};
 ghost use Rattle.saturate.specs.Keeping.{IsConcludedBy, IsIdle, IsWhole, IsSaid, InTurn};
 
 use crate::conclusions::Concludes;
-use rule_universe::{Fact, Placed, Universe};
+use facts::Fact;
+use rule_universe::{Placed, Universe};
 use std::alloc::AllocError;
 
 /// Keeps what the instances of a round conclude. The rounds themselves stand once, over any such

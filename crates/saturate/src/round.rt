@@ -1,9 +1,9 @@
 //! One round: each instance that is due is applied once to the facts from before it.
 ghost use Rattle.std.specs.Prelude.{◌≡◌, ◌<◌, ◌≤◌, ◌+◌, ℕ, suc, None, IfOk, length, Contains};
 ghost use Rattle.std.specs.Prelude.{count_by};
-ghost use Rattle.rule_universe.specs.facts.declared.fact.Slot.TheVariants as slot;
-ghost use Rattle.rule_universe.specs.derivation.Rounds.{conclusion};
-ghost use Rattle.rule_universe.specs.derivation.Changes.{IsQuiet};
+ghost use Rattle.facts.specs.declared.fact.Slot.TheVariants as slot;
+ghost use Rattle.derivation.specs.Rounds.{conclusion};
+ghost use Rattle.derivation.specs.Changes.{IsQuiet};
 ghost use Rattle.rule_universe.specs.declared.placed.Placed.{Placed as Placement};
 ghost use Rattle.rule_universe.specs.Placed.{slots_of, IsPlaced};
 ghost use Rattle.saturate.specs.Universes.{setting_by};
@@ -12,7 +12,8 @@ ghost use Rattle.saturate.specs.Keeping.{IsSaid, InTurn};
 use crate::conclusions::Concludes;
 use crate::instances::{instance_at, target_place};
 use crate::keeps::Keeps;
-use rule_universe::{Fact, Instance, Placed, Universe};
+use facts::{Fact, Instance};
+use rule_universe::{Placed, Universe};
 use std::alloc::AllocError;
 
 // What the instance concludes from the facts. Its premises are given with their places; the list of

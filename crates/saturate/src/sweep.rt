@@ -1,14 +1,13 @@
 //! A sweep: instances in one fixed order, whose conclusions come to the table itself. So what
 //! changed goes through a chain of instances at once, where a round takes it one further.
 ghost use Rattle.std.specs.Prelude.{◌≡◌, ◌⊎◌, ◌<◌, ◌≤◌, ◌+◌, ℕ, suc, Some, None, IsTrue, IfOk};
-ghost use Rattle.std.specs.Prelude.{OnOk};
-ghost use Rattle.std.specs.Prelude.{length, slice_get, Contains, replicate};
-ghost use Rattle.rule_universe.specs.facts.declared.fact.Fact.{Fact as Conclusion};
-ghost use Rattle.rule_universe.specs.facts.declared.fact.Slot.TheVariants as slot;
-ghost use Rattle.rule_universe.specs.facts.Order.{slot_of, IsStronger};
-ghost use Rattle.rule_universe.specs.derivation.Derivations.{At, Derives};
-ghost use Rattle.rule_universe.specs.derivation.Rounds.{InTable, all_at, IsBestFrom};
-ghost use Rattle.rule_universe.specs.derivation.Changes.{IsQuiet};
+ghost use Rattle.std.specs.Prelude.{OnOk, length, slice_get, Contains, replicate};
+ghost use Rattle.facts.specs.declared.fact.Fact.{Fact as Conclusion};
+ghost use Rattle.facts.specs.declared.fact.Slot.TheVariants as slot;
+ghost use Rattle.facts.specs.Order.{slot_of, IsStronger};
+ghost use Rattle.derivation.specs.Derivations.{At, Derives};
+ghost use Rattle.derivation.specs.Rounds.{InTable, all_at, IsBestFrom};
+ghost use Rattle.derivation.specs.Changes.{IsQuiet};
 ghost use Rattle.rule_universe.specs.declared.placed.Placed.{Placed as Placement};
 ghost use Rattle.rule_universe.specs.Placed.{slots_of};
 ghost use Rattle.saturate.specs.Tables.{fact_at, IsFoundAt};
@@ -24,7 +23,8 @@ use crate::instances::{instance_at, target_place};
 use crate::kept::Table;
 use crate::marks::mark_users;
 use crate::table::refill;
-use rule_universe::{Fact, Placed, Slot, Universe, slot, stronger};
+use facts::{Fact, Slot, slot, stronger};
+use rule_universe::{Placed, Universe};
 use std::alloc::{AllocError, Global};
 
 // How often all instances are gone through at most.

@@ -1,16 +1,17 @@
 //! The two tables of a round: what instances conclude from the one comes to the other.
 ghost use Rattle.std.specs.Prelude.{◌≡◌, OnOk, Contains};
+ghost use Rattle.derivation.specs.Rounds.{IsSame, Grows};
+ghost use Rattle.derivation.specs.Changes.{IsListed};
 ghost use Rattle.rule_universe.specs.declared.placed.Placed.{Placed as Placement};
 ghost use Rattle.rule_universe.specs.Placed.{slots_of};
-ghost use Rattle.rule_universe.specs.derivation.Rounds.{IsSame, Grows};
-ghost use Rattle.rule_universe.specs.derivation.Changes.{IsListed};
 ghost use Rattle.saturate.specs.Tables.{fact_at, HasPlace, IsFoundAt, IsShaped, IsCopy};
 
 use crate::conclusions::Concludes;
 use crate::improve::improve;
 use crate::keeps::Keeps;
 use crate::kept::{Table, Tables};
-use rule_universe::{Fact, Placed, Universe};
+use facts::Fact;
+use rule_universe::{Placed, Universe};
 use std::alloc::AllocError;
 use std::mem::swap;
 

@@ -1,7 +1,8 @@
 //! Memory for rounds, whatever keeps what they conclude.
 ghost use Rattle.std.specs.Prelude.{◌≡◌, OnOk, true, replicate};
 
-use rule_universe::{Fact, Placed};
+use facts::Fact;
+use rule_universe::Placed;
 use std::alloc::{AllocError, Global};
 
 /// Memory for rounds, whatever keeps what they conclude. What it holds doesn't matter to any call.

@@ -2,23 +2,23 @@
 use Rattle.std.specs.Prelude.{◌≡◌, ◌<◌, ℕ, List, length, get_or, Some, slice_get}
 use Rattle.std.proofs.Common.{◌∙◌, ap, sym, subst, inl, arith}
 use Rattle.std.proofs.lemmas.List.FromFn.{length-map-range_with_len}
-use Rattle.script_texts.specs.goals.declared.line.Line.{Line}
-use Rattle.script_texts.specs.script_claims.declared.claim.Claim.{Claim}
-use Rattle.script_texts.specs.script_grammar.Cases.{cases_of}
-use Rattle.script_texts.specs.script_grammar.Spells.{View, Spells, GoalsHaveSpans}
-use Rattle.script_texts.specs.report.Lines.{expressions_text}
-use Rattle.script_texts.specs.report.Unproved.{unproved_text}
-use Rattle.settler.specs.bisect.declared.outcome.Leaf.{Leaf}
-use Rattle.settler.specs.case_trees.declared.outcome.CaseOutcome.TheVariants as outcome
-use Rattle.settler.specs.case_trees.declared.outcome.OpenLeaf.{OpenLeaf}
-use Rattle.settler.specs.bisect.Gathered.{line_of, lines_of}
+use Rattle.goals.specs.declared.line.Line.{Line}
+use Rattle.script_claims.specs.declared.claim.Claim.{Claim}
+use Rattle.script_grammar.specs.Cases.{cases_of}
+use Rattle.script_grammar.specs.Spells.{View, Spells, GoalsHaveSpans}
+use Rattle.bisect.specs.declared.outcome.Leaf.{Leaf}
+use Rattle.bisect.specs.Gathered.{line_of, lines_of}
+use Rattle.case_trees.specs.declared.outcome.CaseOutcome.TheVariants as outcome
+use Rattle.case_trees.specs.declared.outcome.OpenLeaf.{OpenLeaf}
 use Rattle.settler.specs.declared.cases.Case.{Case}
 use Rattle.settler.specs.Answers.{Options, ComesTo, HasTooManyExpressions, IsProved, plan_of}
 use Rattle.settler.specs.Cases.{AreCases, as_many, case_of}
 use Rattle.settler.specs.Tight.{ProvedLinesAreTight}
 use Rattle.settler.specs.Held.{ProvedHolds}
-use Rattle.script_texts.specs.command_runs.Runs.{Bytes}
-use Rattle.script_texts.specs.command_runs.declared.status.Status.TheVariants as status
+use Rattle.command_runs.specs.Runs.{Bytes}
+use Rattle.command_runs.specs.declared.status.Status.TheVariants as status
+use Rattle.report.specs.Lines.{expressions_text}
+use Rattle.report.specs.Unproved.{unproved_text}
 use Rattle.script_answers.specs.Answers.{IsProvedText, ProvePrints}
 
 -- all goals are settled

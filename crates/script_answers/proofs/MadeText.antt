@@ -1,12 +1,12 @@
 -- What is answered to the made script, from what is found of it.
 use Rattle.std.proofs.Common.{◌≡◌, ◌≢◌, ℕ, List, refl, subst}
-use Rattle.script_texts.specs.goals.declared.line.Line.{Line}
-use Rattle.script_texts.specs.script_grammar.Spells.{View}
-use Rattle.script_texts.specs.command_runs.Runs.{Bytes}
-use Rattle.script_texts.specs.command_runs.declared.status.Status.{Status}
-use Rattle.script_texts.specs.command_runs.declared.status.Status.TheVariants.{Answered}
+use Rattle.goals.specs.declared.line.Line.{Line}
+use Rattle.script_grammar.specs.Spells.{View}
 use Rattle.made_script.specs.Script.{script_text}
-use Rattle.script_texts.specs.report.Proved.{made_text}
+use Rattle.command_runs.specs.Runs.{Bytes}
+use Rattle.command_runs.specs.declared.status.Status.{Status}
+use Rattle.command_runs.specs.declared.status.Status.TheVariants.{Answered}
+use Rattle.report.specs.Proved.{made_text}
 use Rattle.script_answers.specs.Answers.{IsProvedText, ProvePrints, MadePrints, made_options}
 use Rattle.script_answers.specs.Answers.{first_line}
 

@@ -1,29 +1,28 @@
 -- One answer is defined for a text.
 use Rattle.std.specs.Prelude.{◌⊎◌, slice_get}
 use Rattle.std.proofs.Common.{◌≡◌, ◌≢◌, inl, inr, ℕ, List, length, Some, refl, sym, ◌∙◌, subst}
-use Rattle.script_texts.specs.goals.declared.line.Line.{Line}
-use Rattle.script_texts.specs.script_judge.First.{FirstsAreUnique}
-use Rattle.script_texts.specs.script_grammar.Spells.{View, Spells, SpellsOnce, NeverBoth}
-use Rattle.settler.specs.rewrite_hints.Marks.{AreMarks, marks_are_one}
-use Rattle.script_texts.specs.script_claims.declared.claim.Claim.{Claim}
-use Rattle.script_texts.specs.script_grammar.Cases.{cases_of}
-use Rattle.settler.specs.bisect.declared.outcome.Leaf.{Leaf}
-use Rattle.settler.specs.case_trees.declared.outcome.OpenLeaf.{OpenLeaf}
-use Rattle.settler.specs.case_trees.declared.outcome.CaseOutcome.TheVariants as outcome
-use Rattle.settler.specs.bisect.Gathered.{lines_of}
+use Rattle.goals.specs.declared.line.Line.{Line}
+use Rattle.script_judge.specs.First.{FirstsAreUnique}
+use Rattle.script_claims.specs.declared.claim.Claim.{Claim}
+use Rattle.script_grammar.specs.Spells.{View, Spells, SpellsOnce, NeverBoth}
+use Rattle.script_grammar.specs.Cases.{cases_of}
+use Rattle.rewrite_hints.specs.Marks.{AreMarks, marks_are_one}
+use Rattle.bisect.specs.declared.outcome.Leaf.{Leaf}
+use Rattle.bisect.specs.Gathered.{lines_of}
+use Rattle.case_trees.specs.declared.outcome.OpenLeaf.{OpenLeaf}
+use Rattle.case_trees.specs.declared.outcome.CaseOutcome.TheVariants as outcome
 use Rattle.settler.specs.Answers.{Options, Answer, expr_limit, box_limit, unproved, proved, ComesTo}
 use Rattle.settler.specs.Answers.{IsScriptAnswer, AnswersAreOne, OutcomesAreOne}
 use Rattle.settler.specs.Answers.{HasTooManyExpressions, HasTooManyBoxes, plan_of}
-use Rattle.script_texts.specs.report.Lines.{expressions_text, boxes_text}
-use Rattle.script_texts.specs.Texts.{refused_once}
-use Rattle.script_texts.specs.report.Proved.{answer_text, made_text}
 use Rattle.made_script.specs.Script.{script_text}
-use Rattle.script_texts.specs.report.Unproved.{unproved_text}
-use Rattle.script_texts.specs.command_runs.Runs.{Bytes}
-use Rattle.script_texts.specs.command_runs.declared.status.Status.{Status}
-use Rattle.script_texts.specs.command_runs.declared.status.Status.TheVariants.{Answered, Limit}
-use Rattle.script_texts.specs.command_runs.declared.status.Status.TheVariants.{Unproved}
-use Rattle.script_texts.specs.command_runs.declared.status.Status.TheVariants as status
+use Rattle.command_runs.specs.Runs.{Bytes}
+use Rattle.command_runs.specs.declared.status.Status.{Status}
+use Rattle.command_runs.specs.declared.status.Status.TheVariants.{Answered, Limit, Unproved}
+use Rattle.command_runs.specs.declared.status.Status.TheVariants as status
+use Rattle.report.specs.Lines.{expressions_text, boxes_text}
+use Rattle.report.specs.Proved.{answer_text, made_text}
+use Rattle.report.specs.Unproved.{unproved_text}
+use Rattle.script_texts.specs.Texts.{refused_once}
 use Rattle.script_answers.specs.Answers.{ProvePrints, IsAnswered, IsProvedText, IsMadeAnswered}
 use Rattle.script_answers.specs.Answers.{MadePrints, made_options, first_line}
 use Rattle.script_answers.specs.Laws.{TextAnswersAreOne, MadeAnswersAreOne}

@@ -1,29 +1,29 @@
 -- What is answered to a text: a status and lines.
 use Rattle.std.specs.Prelude.{◌≡◌, ◌≢◌, ◌≤◌, ◌⊎◌, ℕ, List, [], ◌∷◌, length, Some, slice_get}
 use Rattle.fx_model.specs.Expression.{Assignment}
-use Rattle.script_texts.specs.facts.declared.hint.HintMark.{HintMark}
-use Rattle.script_texts.specs.goals.declared.line.Line.{Line}
-use Rattle.script_texts.specs.goals.declared.line.Line.TheVariants as line
-use Rattle.script_texts.specs.script_claims.declared.claim.Claim.{Claim}
-use Rattle.script_texts.specs.script_grammar.Spells.{View, Spells}
-use Rattle.settler.specs.script_meets.Meets.{Meets}
-use Rattle.settler.specs.rewrite_hints.Marks.{AreMarks}
-use Rattle.script_texts.specs.script_grammar.Cases.{cases_of}
-use Rattle.settler.specs.case_trees.declared.outcome.OpenLeaf.{OpenLeaf}
+use Rattle.facts.specs.declared.hint.HintMark.{HintMark}
+use Rattle.goals.specs.declared.line.Line.{Line}
+use Rattle.goals.specs.declared.line.Line.TheVariants as line
+use Rattle.script_claims.specs.declared.claim.Claim.{Claim}
+use Rattle.script_grammar.specs.Spells.{View, Spells}
+use Rattle.script_grammar.specs.Cases.{cases_of}
+use Rattle.script_meets.specs.Meets.{Meets}
+use Rattle.script_meets.specs.Held.{AreHeld}
+use Rattle.rewrite_hints.specs.Marks.{AreMarks}
+use Rattle.case_trees.specs.declared.outcome.OpenLeaf.{OpenLeaf}
 use Rattle.settler.specs.Answers.{Options, HasTooManyExpressions, HasTooManyBoxes, IsUnproved}
 use Rattle.settler.specs.Answers.{IsProvedIn, plan_of}
 use Rattle.settler.specs.Tight.{AreTight}
-use Rattle.settler.specs.script_meets.Held.{AreHeld}
 use Rattle.command_line.specs.Reading.{Asked}
-use Rattle.script_texts.specs.command_runs.Runs.{Bytes}
-use Rattle.script_texts.specs.command_runs.declared.status.Status.{Status}
-use Rattle.script_texts.specs.command_runs.declared.status.Status.TheVariants as status
-use Rattle.script_texts.specs.Texts.{IsRefusedWith}
 use Rattle.made_script.specs.Script.{script_text}
 use Rattle.made_script.specs.Proving.{stated_options}
-use Rattle.script_texts.specs.report.Lines.{expressions_text, boxes_text}
-use Rattle.script_texts.specs.report.Proved.{answer_text, made_text}
-use Rattle.script_texts.specs.report.Unproved.{unproved_text}
+use Rattle.command_runs.specs.Runs.{Bytes}
+use Rattle.command_runs.specs.declared.status.Status.{Status}
+use Rattle.command_runs.specs.declared.status.Status.TheVariants as status
+use Rattle.report.specs.Lines.{expressions_text, boxes_text}
+use Rattle.report.specs.Proved.{answer_text, made_text}
+use Rattle.report.specs.Unproved.{unproved_text}
+use Rattle.script_texts.specs.Texts.{IsRefusedWith}
 use Rattle.script_answers.specs.declared.options.Options.{Options as Asking}
 use Rattle.script_answers.specs.declared.found.Found.{Found}
 use Rattle.script_answers.specs.declared.found.Found.TheVariants as found

@@ -1,11 +1,11 @@
 -- One answer is defined for a text.
 use Rattle.std.specs.Prelude.{◌≡◌, ℕ, refl}
 use Rattle.settler.specs.Answers.{Options}
-use Rattle.script_texts.specs.command_runs.Runs.{Bytes}
-use Rattle.script_texts.specs.command_runs.Fates.{ending}
-use Rattle.script_texts.specs.command_runs.Fates.Ending.{Done}
-use Rattle.script_texts.specs.command_runs.declared.status.Status.{Status}
-use Rattle.script_texts.specs.command_runs.declared.status.Status.TheVariants as status
+use Rattle.command_runs.specs.Runs.{Bytes}
+use Rattle.command_runs.specs.Fates.{ending}
+use Rattle.command_runs.specs.Fates.Ending.{Done}
+use Rattle.command_runs.specs.declared.status.Status.{Status}
+use Rattle.command_runs.specs.declared.status.Status.TheVariants as status
 use Rattle.script_answers.specs.Answers.{ProvePrints, MadePrints}
 
 -- A text has one status and one text of lines at most, under given options.

@@ -1,10 +1,10 @@
 -- What `prove` answers to a text that is read, up to a byte past a script's limit.
 use Rattle.settler.specs.Answers.{Options}
-use Rattle.script_texts.specs.whole_texts.Texts.{IsText}
-use Rattle.script_texts.specs.command_runs.Runs.{Bytes, Told}
-use Rattle.script_texts.specs.command_runs.Fates.{OfText}
-use Rattle.script_texts.specs.command_runs.declared.status.Status.{Status}
-use Rattle.script_texts.specs.command_runs.declared.status.Status.TheVariants as status
+use Rattle.whole_texts.specs.Texts.{IsText}
+use Rattle.command_runs.specs.Runs.{Bytes, Told}
+use Rattle.command_runs.specs.Fates.{OfText}
+use Rattle.command_runs.specs.declared.status.Status.{Status}
+use Rattle.command_runs.specs.declared.status.Status.TheVariants as status
 use Rattle.script_texts.specs.Texts.{IsLong, long_refused, no_script, told_text}
 use Rattle.script_answers.specs.Answers.{ProvePrints}
 

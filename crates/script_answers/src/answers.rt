@@ -1,15 +1,20 @@
 // The status and the lines for a text.
 ghost use Rattle.std.specs.Prelude.{◌≡◌, IfOk};
-ghost use Rattle.script_texts.specs.script_judge.declared.refusal.Refusal.{Refusal};
-ghost use Rattle.script_texts.specs.script_grammar.Spells.{IsRefused};
-ghost use Rattle.script_texts.specs.report.Proved as spec;
+ghost use Rattle.script_judge.specs.declared.refusal.Refusal.{Refusal};
+ghost use Rattle.script_grammar.specs.Spells.{IsRefused};
+ghost use Rattle.report.specs.Proved as spec;
 ghost use Rattle.script_answers.specs.Answers.{AreAllowed, IsFound, ProvePrints, options_from};
 
 use crate::found::{Found, prove_script, prove_script_alone};
 use crate::options::Options;
 use fx_edge::Gate;
-use script_texts::{HintMark, Line, ParseStop, Script, Status, answer_text, parse, refused_line};
-use settler::classify;
+use facts::HintMark;
+use goals::Line;
+use script_grammar::{ParseStop, Script, parse};
+use command_runs::Status;
+use report::proved::answer_text;
+use script_texts::refused_line;
+use universe::classify;
 use std::alloc::{AllocError, Global};
 use std::sync::Wait;
 use std::thread::Threads;

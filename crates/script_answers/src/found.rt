@@ -1,23 +1,26 @@
 // What is found of a script.
 ghost use Rattle.std.specs.Prelude.{◌≡◌, ◌<◌, [], List, Some, IfOk, length, slice_get};
-ghost use Rattle.script_texts.specs.script_claims.declared.claim.Claim.{Claim};
-ghost use Rattle.script_texts.specs.script_grammar.Cases.{cases_of};
-ghost use Rattle.settler.specs.universe.Universes.{IsUniverse, IsTooLarge};
+ghost use Rattle.script_claims.specs.declared.claim.Claim.{Claim};
+ghost use Rattle.script_grammar.specs.Cases.{cases_of};
+ghost use Rattle.universe.specs.Universes.{IsUniverse, IsTooLarge};
 ghost use Rattle.settler.specs.Answers.{ComesTo, plan_of};
 ghost use Rattle.settler.specs.Cases.{AreCases};
 ghost use Rattle.settler.specs.Held.{ProvedHolds};
-ghost use Rattle.script_texts.specs.report.Unproved as spec;
+ghost use Rattle.report.specs.Unproved as spec;
 ghost use Rattle.script_answers.specs.Answers.{AreAllowed, IsFound, ProvePrints, options_from};
 
 use crate::options::Options;
 use fx_edge::{Gate, Items};
-use script_texts::{
-    Line, Script, Status, boxes_text, expressions_text, script_or_refusal, unproved_text,
-};
-use settler::{
-    Case, CaseOutcome, OpenLeaf, Universe, UniverseFault, answer, answer_alone, build, lines_of,
-    open_leaves_are_first, planned_cases, proved_lines_are_tight,
-};
+use goals::Line;
+use script_grammar::{Script, script_or_refusal};
+use command_runs::Status;
+use report::runs::{boxes_text, expressions_text};
+use report::unproved::unproved_text;
+use settler::{Case, answer, answer_alone, open_leaves_are_first, planned_cases, proved_lines_are_tight};
+use case_trees::{CaseOutcome, OpenLeaf};
+use rule_universe::Universe;
+use universe::{UniverseFault, build};
+use bisect::lines_of;
 use std::alloc::{AllocError, Global};
 use std::sync::Wait;
 use std::thread::Threads;

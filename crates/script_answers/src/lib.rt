@@ -1,9 +1,6 @@
 //! What is answered to a script's text under options: a status and lines.
 #![tactic(auto)]
 
-// What callers name of the crates below.
-pub use script_texts::{HintMark, ParseStop, Script, parse, refused_line};
-pub use settler::{Case, Universe, UniverseFault, build, classify, planned_cases};
 
 mod answers;
 mod found;

@@ -1,15 +1,19 @@
 // The status and the lines for the made script.
 ghost use Rattle.std.specs.Prelude.{◌≡◌, IfOk};
+ghost use Rattle.script_judge.specs.declared.refusal.Refusal.{Refusal};
+ghost use Rattle.script_grammar.specs.Spells.{IsRefused};
 ghost use Rattle.made_script.specs.Script.{script_text};
-ghost use Rattle.script_texts.specs.script_judge.declared.refusal.Refusal.{Refusal};
-ghost use Rattle.script_texts.specs.script_grammar.Spells.{IsRefused};
 ghost use Rattle.script_answers.specs.Answers.{IsFound, MadePrints, first_line, made_options};
 
 use crate::found::{Found, prove_script};
 use crate::options::made_options;
 use fx_edge::Gate;
 use made_script::made_script;
-use script_texts::{Line, ParseStop, Script, Status, made_text, parse, refused_line};
+use goals::Line;
+use script_grammar::{ParseStop, Script, parse};
+use command_runs::Status;
+use report::proved::made_text;
+use script_texts::refused_line;
 use std::alloc::{AllocError, Global};
 use std::sync::Wait;
 use std::thread::Threads;

@@ -1,12 +1,10 @@
 -- What stands on the right side of the end stands there of the written bound.
 use Rattle.std.specs.Prelude.{◌≡◌, Bool, true, false, refl}
 use Rattle.std.proofs.Common.{sym}
-use Rattle.literal_order.specs.fx_model.Fraction.{Fraction, ◌≤ℚ◌, ◌<ℚ◌, le_trans, lt_le_trans}
-use Rattle.literal_order.specs.fx_model.Fraction.{le_lt_trans}
-use Rattle.literal_order.specs.fx_model.Grid.{Bound, Below, At, Above, IsDown, IsUp}
-use Rattle.literal_order.specs.dyadic.Ends.{bound_of}
-use Rattle.literal_order.specs.dyadic.Order.{le_bound}
-use Rattle.literal_order.specs.interval.Results.{point_of}
+use Rattle.fx_model.specs.Fraction.{Fraction, ◌≤ℚ◌, ◌<ℚ◌, le_trans, lt_le_trans, le_lt_trans}
+use Rattle.fx_model.specs.Grid.{Bound, Below, At, Above, IsDown, IsUp, le_bound}
+use Rattle.dyadic.specs.Ends.{bound_of}
+use Rattle.interval.specs.Results.{point_of}
 use Rattle.literal_order.specs.Values.{written_value}
 use Rattle.facts.specs.Rows.{IsUnder, IsOver}
 use Rattle.script_bounds.specs.Sides.{UnderIsEnough, OverIsEnough}

@@ -1,22 +1,21 @@
 -- An interval lies between written bounds exactly where it lies in the one rounded inward.
 use Rattle.std.specs.Prelude.{◌≡◌, Some}
 use Rattle.std.proofs.Common.{subst, ⊎_elim}
-use Rattle.literal_order.specs.fx_model.Fraction.{Fraction, ◌≤ℚ◌, ◌+ℚ◌, ◌-ℚ◌, one_ℚ, le_refl}
-use Rattle.literal_order.specs.fx_model.Fraction.{le_trans, lt_le, lt_not, le_or_lt, minus_one}
-use Rattle.literal_order.specs.fx_model.Fraction.{plus_one}
-use Rattle.literal_order.specs.fx_model.Grid.{Bound, Below, At, Above, IsOnGrid, IsDown, IsUp}
-use Rattle.literal_order.specs.fx_model.Enclosure.{Range, IsFrom, IsUpTo, Lies, IsOrdered, BoundLe}
-use Rattle.literal_order.specs.fx_model.Enclosure.{Within, within_in, member_of, ordered_by}
-use Rattle.literal_order.specs.fx_model.Enclosure.{lower_up_to, higher_from, end_up_to, end_from}
-use Rattle.literal_order.specs.dyadic.declared.number.End.{End}
-use Rattle.literal_order.specs.dyadic.declared.number.End.TheVariants as end
-use Rattle.literal_order.specs.dyadic.Ends.{bound_of}
-use Rattle.literal_order.specs.dyadic.Values.{value_of, on_grid}
-use Rattle.literal_order.specs.interval.declared.interval.Interval.{Interval}
-use Rattle.literal_order.specs.interval.Intervals.{range_of}
-use Rattle.literal_order.specs.interval.Ends.{AreEnds, range_from}
-use Rattle.literal_order.specs.interval.Results.{point_of}
-use Rattle.literal_order.specs.interval.Meets.{interval_from-some, interval_from_out}
+use Rattle.fx_model.specs.Fraction.{Fraction, ◌≤ℚ◌, ◌+ℚ◌, ◌-ℚ◌, one_ℚ, le_refl, le_trans, lt_le}
+use Rattle.fx_model.specs.Fraction.{lt_not, le_or_lt, minus_one, plus_one}
+use Rattle.fx_model.specs.Grid.{Bound, Below, At, Above, IsOnGrid, IsDown, IsUp}
+use Rattle.fx_model.specs.Enclosure.{Range, IsFrom, IsUpTo, Lies, IsOrdered, BoundLe, Within}
+use Rattle.fx_model.specs.Enclosure.{within_in, member_of, ordered_by, lower_up_to, higher_from}
+use Rattle.fx_model.specs.Enclosure.{end_up_to, end_from}
+use Rattle.dyadic.specs.declared.number.End.{End}
+use Rattle.dyadic.specs.declared.number.End.TheVariants as end
+use Rattle.dyadic.specs.Ends.{bound_of}
+use Rattle.dyadic.specs.Values.{value_of, on_grid}
+use Rattle.interval.specs.declared.interval.Interval.{Interval}
+use Rattle.interval.specs.Intervals.{range_of}
+use Rattle.interval.specs.Ends.{AreEnds, range_from}
+use Rattle.interval.specs.Results.{point_of}
+use Rattle.interval.specs.Meets.{interval_from-some, interval_from_out}
 use Rattle.script_bounds.specs.Bounds.{down_end, up_end, inward_of}
 use Rattle.script_bounds.proofs.Rounded.{down_at, up_at}
 

@@ -1,14 +1,13 @@
 -- A number of the grid is below the end exactly where it is below the written bound.
 use Rattle.std.specs.Prelude.{◌≡◌, ◌↔◌, Bool, true, false, refl}
 use Rattle.std.proofs.Common.{sym, subst}
-use Rattle.literal_order.specs.fx_model.Fraction.{Fraction, ◌≤ℚ◌, ◌<ℚ◌, le_refl, le_trans}
-use Rattle.literal_order.specs.fx_model.Fraction.{le_antisymm, lt_by, lt_le}
-use Rattle.literal_order.specs.fx_model.Grid.{Bound, Below, At, Above, IsOnGrid, IsDown, IsUp}
-use Rattle.literal_order.specs.fx_model.Enclosure.{BoundLe}
-use Rattle.literal_order.specs.dyadic.Ends.{bound_of}
-use Rattle.literal_order.specs.dyadic.Order.{le_bound}
-use Rattle.literal_order.specs.dyadic.Compared.{BoundLe_out}
-use Rattle.literal_order.specs.interval.Results.{point_of}
+use Rattle.fx_model.specs.Fraction.{Fraction, ◌≤ℚ◌, ◌<ℚ◌, le_refl, le_trans, le_antisymm, lt_by}
+use Rattle.fx_model.specs.Fraction.{lt_le}
+use Rattle.fx_model.specs.Grid.{Bound, Below, At, Above, IsOnGrid, IsDown, IsUp, le_bound}
+use Rattle.fx_model.specs.Enclosure.{BoundLe}
+use Rattle.dyadic.specs.Ends.{bound_of}
+use Rattle.dyadic.specs.Compared.{BoundLe_out}
+use Rattle.interval.specs.Results.{point_of}
 use Rattle.literal_order.specs.declared.written.Written.{Written}
 use Rattle.literal_order.specs.Values.{written_value}
 use Rattle.facts.specs.Rows.{IsUnder, IsOver}

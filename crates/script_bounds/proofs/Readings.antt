@@ -1,14 +1,14 @@
 -- What a text that was read stands for.
 use Rattle.std.proofs.Common.{◌≡◌, ℕ, List, Bool, Some, None, Result, Err, ◌↔◌, refl, sym, ap, ◌∙◌}
 use Rattle.std.proofs.Common.{subst}
-use Rattle.literal_order.specs.fx_model.Fraction.{Fraction}
-use Rattle.literal_order.specs.fx_model.Grid.{signed}
-use Rattle.literal_order.specs.fx_model.Expression.{literal_value}
-use Rattle.literal_order.specs.fx_model.declared.Literal.{Literal}
-use Rattle.literal_order.specs.literal.declared.reading.LiteralFault.{LiteralFault}
-use Rattle.literal_order.specs.literal.declared.reading.LiteralFault.TheVariants as fault
-use Rattle.literal_order.specs.literal.Spelling.{Spelling, Spells, IsLiteral, IsWithin, written}
-use Rattle.literal_order.specs.literal.Normal.{IsReading, IsPastLimits}
+use Rattle.fx_model.specs.Fraction.{Fraction}
+use Rattle.fx_model.specs.Grid.{signed}
+use Rattle.fx_model.specs.Expression.{literal_value}
+use Rattle.fx_model.specs.declared.Literal.{Literal}
+use Rattle.literal.specs.declared.reading.LiteralFault.{LiteralFault}
+use Rattle.literal.specs.declared.reading.LiteralFault.TheVariants as fault
+use Rattle.literal.specs.Spelling.{Spelling, Spells, IsLiteral, IsWithin, written}
+use Rattle.literal.specs.Normal.{IsReading, IsPastLimits}
 use Rattle.script_bounds.specs.Texts.{IsNumber}
 
 abbrev failed : LiteralFault → Result Literal LiteralFault

@@ -1,23 +1,22 @@
 -- The ends around a written bound are its roundings to the grid.
 use Rattle.std.specs.Prelude.{◌≡◌, Some, refl}
 use Rattle.std.proofs.Common.{sym, subst, ap, ◌∙◌}
-use Rattle.literal_order.specs.fx_model.Fraction.{Fraction, ◌≤ℚ◌, le_refl, le_antisymm}
-use Rattle.literal_order.specs.fx_model.Grid.{Bound, Below, At, Above, IsDown, IsUp}
-use Rattle.literal_order.specs.fx_model.Enclosure.{Range, Lies, IsEnclosure}
-use Rattle.literal_order.specs.fx_model.Enclosure.{IsOrdered, enclosure_unique, member_of}
-use Rattle.literal_order.specs.fx_model.Enclosure.{enclosure_ordered}
-use Rattle.literal_order.specs.grid_words.Nearest.{down, up}
-use Rattle.literal_order.specs.grid_words.Outward as grid
-use Rattle.literal_order.specs.grid_words.Outward.{outward, outward_is, outward_exact}
-use Rattle.literal_order.specs.dyadic.Ends.{bound_of}
-use Rattle.literal_order.specs.interval.declared.interval.Interval.{Interval}
-use Rattle.literal_order.specs.interval.Intervals.{range_of}
-use Rattle.literal_order.specs.interval.Literals.{Alone}
-use Rattle.literal_order.specs.interval.Ends.{AreEnds}
-use Rattle.literal_order.specs.interval.Results.{point_of, point_of-is}
-use Rattle.literal_order.specs.interval.Meets.{interval_from-some}
+use Rattle.fx_model.specs.Fraction.{Fraction, ◌≤ℚ◌, le_refl, le_antisymm}
+use Rattle.fx_model.specs.Grid.{Bound, Below, At, Above, IsDown, IsUp}
+use Rattle.fx_model.specs.Enclosure.{Range, Lies, IsEnclosure, IsOrdered, enclosure_unique}
+use Rattle.fx_model.specs.Enclosure.{member_of, enclosure_ordered}
+use Rattle.grid_words.specs.Nearest.{down, up}
+use Rattle.grid_words.specs.Outward as grid
+use Rattle.grid_words.specs.Outward.{outward, outward_is, outward_exact}
+use Rattle.dyadic.specs.Ends.{bound_of}
+use Rattle.interval.specs.declared.interval.Interval.{Interval}
+use Rattle.interval.specs.Intervals.{range_of}
+use Rattle.interval.specs.Literals.{Alone}
+use Rattle.interval.specs.Ends.{AreEnds}
+use Rattle.interval.specs.Results.{point_of, point_of-is}
+use Rattle.interval.specs.Meets.{interval_from-some}
+use Rattle.interval.specs.Members.{alone_down, alone_up}
 use Rattle.script_bounds.specs.Bounds.{down_end, up_end, outward_of}
-use Rattle.literal_order.specs.interval.Members.{alone_down, alone_up}
 
 abbrev between : Bound → Bound → Range
 between b c = record { low = b; high = c }

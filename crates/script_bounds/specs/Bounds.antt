@@ -1,12 +1,12 @@
 -- The intervals that stand for written bounds.
 use Rattle.std.specs.Prelude.{Option, Some, None}
-use Rattle.literal_order.specs.fx_model.Grid.{Bound, Below, At, Above}
-use Rattle.literal_order.specs.fx_model.Enclosure.{Range}
-use Rattle.literal_order.specs.dyadic.declared.number.End.{End}
-use Rattle.literal_order.specs.dyadic.declared.number.End.TheVariants as end
-use Rattle.literal_order.specs.interval.declared.interval.Interval.{Interval}
-use Rattle.literal_order.specs.interval.Results.{point_of}
-use Rattle.literal_order.specs.interval.Meets.{interval_from}
+use Rattle.fx_model.specs.Grid.{Bound, Below, At, Above}
+use Rattle.fx_model.specs.Enclosure.{Range}
+use Rattle.dyadic.specs.declared.number.End.{End}
+use Rattle.dyadic.specs.declared.number.End.TheVariants as end
+use Rattle.interval.specs.declared.interval.Interval.{Interval}
+use Rattle.interval.specs.Results.{point_of}
+use Rattle.interval.specs.Meets.{interval_from}
 use Rattle.literal_order.specs.declared.written.Written.{Written}
 use Rattle.literal_order.specs.Values.{written_value}
 

@@ -1,9 +1,9 @@
 -- Worked rows: a range that is open on both sides, and one that has nothing in it.
 use Rattle.std.specs.Prelude.{◌≡◌, Some, None}
-use Rattle.literal_order.specs.fx_model.Grid.{Above}
-use Rattle.literal_order.specs.interval.Results.{whole_interval}
-use Rattle.literal_order.specs.interval.Meets.{interval_from-some, interval_from-none}
-use Rattle.literal_order.specs.dyadic.declared.number.End.TheVariants as end
+use Rattle.fx_model.specs.Grid.{Above}
+use Rattle.dyadic.specs.declared.number.End.TheVariants as end
+use Rattle.interval.specs.Results.{whole_interval}
+use Rattle.interval.specs.Meets.{interval_from-some, interval_from-none}
 use Rattle.script_bounds.specs.Bounds.{written_range, outward_of, inward_of}
 
 open_is_whole : outward_of (written_range None None) ≡ Some whole_interval

@@ -1,10 +1,10 @@
 -- Constraints on one side.
 use Rattle.std.specs.Prelude.{◌&&◌, Bool}
-use Rattle.literal_order.specs.dyadic.declared.number.End.{End}
-use Rattle.literal_order.specs.dyadic.Ends.{bound_of}
-use Rattle.literal_order.specs.dyadic.Order.{le_bound}
-use Rattle.literal_order.specs.interval.declared.interval.Interval.{Interval}
-use Rattle.literal_order.specs.interval.Results.{point_of}
+use Rattle.fx_model.specs.Grid.{le_bound}
+use Rattle.dyadic.specs.declared.number.End.{End}
+use Rattle.dyadic.specs.Ends.{bound_of}
+use Rattle.interval.specs.declared.interval.Interval.{Interval}
+use Rattle.interval.specs.Results.{point_of}
 use Rattle.literal_order.specs.declared.written.Written.{Written}
 use Rattle.literal_order.specs.Values.{written_value}
 

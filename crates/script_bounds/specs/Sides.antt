@@ -1,7 +1,7 @@
 -- On which side of a written bound a number stands.
 use Rattle.std.specs.Prelude.{Bool, true, false}
-use Rattle.literal_order.specs.fx_model.Fraction.{Fraction, ◌≤ℚ◌, ◌<ℚ◌}
-use Rattle.literal_order.specs.dyadic.Ends.{bound_of}
+use Rattle.fx_model.specs.Fraction.{Fraction, ◌≤ℚ◌, ◌<ℚ◌}
+use Rattle.dyadic.specs.Ends.{bound_of}
 use Rattle.literal_order.specs.declared.written.Written.{Written}
 use Rattle.literal_order.specs.Values.{written_value}
 use Rattle.facts.specs.Rows.{IsUnder, IsOver}

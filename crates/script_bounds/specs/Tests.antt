@@ -1,9 +1,9 @@
 -- Tests of bounds, by their values.
 use Rattle.std.specs.Prelude.{Bool, not, Option, Some, None}
-use Rattle.literal_order.specs.fx_model.Fraction.{Fraction, neg_ℚ, one_ℚ, le_ℚ}
-use Rattle.literal_order.specs.fx_model.Grid.{Bound, Below, At, Above}
-use Rattle.literal_order.specs.interval.Intervals.{range_of}
-use Rattle.literal_order.specs.interval.Results.{point_of}
+use Rattle.fx_model.specs.Fraction.{Fraction, neg_ℚ, one_ℚ, le_ℚ}
+use Rattle.fx_model.specs.Grid.{Bound, Below, At, Above}
+use Rattle.interval.specs.Intervals.{range_of}
+use Rattle.interval.specs.Results.{point_of}
 use Rattle.facts.specs.Ranges.{is_below}
 
 -- x is below y

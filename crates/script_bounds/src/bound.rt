@@ -4,7 +4,9 @@ ghost use Rattle.literal_order.specs.Values.{IsWritten};
 ghost use Rattle.script_bounds.specs.Bounds.{low_of, high_of, written_range, down_end, up_end};
 ghost use Rattle.script_bounds.specs.Bounds.{outward_of, inward_of};
 
-use literal_order::{End, Interval, Written};
+use dyadic::End;
+use interval::Interval;
+use literal_order::Written;
 
 /// What a hypothesis says: the least interval that holds each number between the bounds. A bound
 /// that isn't there leaves its side open. None exactly where the lower end would lie above the

@@ -1,17 +1,16 @@
 // What written bounds promise, for callers to cite. Nothing here is done at run time.
 ghost use Rattle.std.specs.Prelude.{◌≡◌, ◌↔◌, true, false, Some};
-ghost use Rattle.literal_order.specs.fx_model.Fraction.{Fraction, ◌≤ℚ◌, ◌<ℚ◌};
-ghost use Rattle.literal_order.specs.fx_model.Grid.{IsOnGrid};
-ghost use Rattle.literal_order.specs.fx_model.Enclosure.{Range, IsOrdered, Lies, IsEnclosure};
-ghost use Rattle.literal_order.specs.fx_model.Enclosure.{Within};
-ghost use Rattle.literal_order.specs.dyadic.Ends.{bound_of};
-ghost use Rattle.literal_order.specs.interval.declared.interval.Interval.{Interval as View};
-ghost use Rattle.literal_order.specs.interval.Intervals.{range_of};
+ghost use Rattle.fx_model.specs.Fraction.{Fraction, ◌≤ℚ◌, ◌<ℚ◌};
+ghost use Rattle.fx_model.specs.Grid.{IsOnGrid};
+ghost use Rattle.fx_model.specs.Enclosure.{Range, IsOrdered, Lies, IsEnclosure, Within};
+ghost use Rattle.dyadic.specs.Ends.{bound_of};
+ghost use Rattle.interval.specs.declared.interval.Interval.{Interval as View};
+ghost use Rattle.interval.specs.Intervals.{range_of};
 ghost use Rattle.literal_order.specs.Values.{written_value};
 ghost use Rattle.literal_order.specs.declared.written.Written.{Written};
+ghost use Rattle.facts.specs.Rows.{IsUnder, IsOver};
 ghost use Rattle.script_bounds.specs.Bounds.{outward_of, inward_of};
 ghost use Rattle.script_bounds.specs.Sides.{UnderIsEnough, OverIsEnough};
-ghost use Rattle.facts.specs.Rows.{IsUnder, IsOver};
 ghost use Rattle.script_bounds.specs.Needs.{below_of, above_of};
 
 /// Nothing is done. The clause tells a caller that bounds in order have an interval, the least that

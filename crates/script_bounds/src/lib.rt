@@ -2,8 +2,6 @@
 //! grid that stand for bounds of propositions.
 #![tactic(auto)]
 
-// What callers name of the crates below.
-pub use facts::{Fact, HintMark, HintRow, Items, Need, Path};
 
 mod bound;
 mod laws;
@@ -12,6 +10,5 @@ mod numbers;
 
 pub use bound::{inward, outward};
 pub use laws::{inward_is_greatest, needs_are_enough, needs_are_exact, outward_is_least};
-pub use literal_order::{Dyadic, LiteralFault, Written, read_bytes};
 pub use need::{above, below};
 pub use numbers::{down, is_too_low, read_number, up};

@@ -1,11 +1,13 @@
 // Constraints on one side, as a hint's needs write them.
 ghost use Rattle.std.specs.Prelude.{◌≡◌, Some};
+ghost use Rattle.fx_model.specs.Grid.{le_bound};
+ghost use Rattle.dyadic.specs.Ends.{bound_of};
 ghost use Rattle.literal_order.specs.Values.{IsWritten};
-ghost use Rattle.literal_order.specs.dyadic.Ends.{bound_of};
-ghost use Rattle.literal_order.specs.dyadic.Order.{le_bound};
 ghost use Rattle.script_bounds.specs.Needs.{below_of, above_of, is_point};
 
-use literal_order::{End, Interval, Written};
+use dyadic::End;
+use interval::Interval;
+use literal_order::Written;
 
 /// What numbers of the grid below the bound have in common, or at most the bound where it isn't
 /// strict: the end that they are at most, and whether that end itself is left out.

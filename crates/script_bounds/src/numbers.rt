@@ -2,15 +2,17 @@
 
 ghost use Rattle.std.specs.Prelude.{◌≡◌, ◌↔◌, Some};
 ghost use Rattle.std.specs.Option.{option_map};
-ghost use Rattle.literal_order.specs.fx_model.Fraction.{Fraction};
-ghost use Rattle.literal_order.specs.dyadic.Ends.{bound_of};
-ghost use Rattle.literal_order.specs.dyadic.Values.{value_of as grid_value};
+ghost use Rattle.fx_model.specs.Fraction.{Fraction};
+ghost use Rattle.dyadic.specs.Ends.{bound_of};
+ghost use Rattle.dyadic.specs.Values.{value_of as grid_value};
 ghost use Rattle.literal_order.specs.Values.{written_value, IsWritten};
 ghost use Rattle.script_bounds.specs.Texts.{IsNumber};
 ghost use Rattle.script_bounds.specs.Tests as spec;
 
 use facts::RelativeError;
-use literal_order::{Dyadic, End, Written, read_bytes};
+use dyadic::{Dyadic, End};
+use literal_order::Written;
+use literal::read_bytes;
 
 /// The number that the text of a literal stands for, or the negative of it. `None` exactly where
 /// the text is no literal within its limits.

@@ -5,8 +5,8 @@ use Rattle.std.proofs.Common.{ap, sym, ◌∙◌, arith, subst}
 use Rattle.std.proofs.lemmas.List.{length-append}
 use Rattle.script_cases.specs.Parts.{Parts, with_item, behind_or, behind_arrow}
 use Rattle.script_cases.specs.Marks.{pieces, left_over, parts_by, IsFilled, AreMarks}
-use Rattle.script_cases.proofs.Pieces.{pieces_more, left_over_more, pieces_end}
-use Rattle.script_cases.proofs.Pieces.{left_over_end, length_pieces, pieces_within}
+use Rattle.script_cases.proofs.Pieces.{pieces_more, left_over_more, pieces_end, left_over_end}
+use Rattle.script_cases.proofs.Pieces.{length_pieces, pieces_within}
 use Rattle.script_cases.specs.Lists.{all_joined, all_as}
 
 module _ {X : Type 0} (items : List X) (ends parts : List ℕ) (m : AreMarks items ends parts) where

@@ -1,22 +1,21 @@
 -- The cases of a script: their claims name its nodes, and what meets the script meets one of them.
-use Rattle.std.proofs.Common.{◌<◌, ℕ, zero, suc, List, [], ◌∷◌, length, map, subst, arith}
-use Rattle.std.proofs.Common.{⊎_elim}
+use Rattle.std.proofs.Common.{◌<◌, ℕ, zero, suc, List, [], ◌∷◌, length, map, subst, arith, ⊎_elim}
 use Rattle.std.specs.Prelude.{slice_index_or}
 use Rattle.std.specs.List.{AllByRecursion}
 use Rattle.fx_model.specs.Expression.{Assignment}
 use Rattle.fx_model.specs.declared.Node.{Node}
-use Rattle.rewrite_hints.specs.facts.declared.fact.Fact.{Fact}
-use Rattle.rewrite_hints.specs.facts.Holds.{Holds}
-use Rattle.rewrite_hints.specs.facts.Order.{slot_of}
+use Rattle.facts.specs.declared.fact.Fact.{Fact}
+use Rattle.facts.specs.Holds.{Holds}
+use Rattle.facts.specs.Order.{slot_of}
 use Rattle.script_cases.specs.Counted.{all_of_cases}
 use Rattle.script_cases.specs.Met.{SomeOf, met_in_some_case}
-use Rattle.script_meets.specs.script_claims.declared.claim.Claim.{Claim}
-use Rattle.script_meets.specs.script_claims.Meets.{IsTrueAt}
-use Rattle.script_meets.specs.script_claims.Facts.{facts_of}
-use Rattle.script_meets.specs.script_grammar.Spells.{View}
-use Rattle.script_meets.specs.script_grammar.Cases.{cases_of}
-use Rattle.script_meets.specs.script_grammar.Ranges.{HasFewCases}
-use Rattle.script_meets.specs.script_grammar.Names.{ClaimIsOf, NamesNodes}
+use Rattle.script_claims.specs.declared.claim.Claim.{Claim}
+use Rattle.script_claims.specs.Meets.{IsTrueAt}
+use Rattle.script_claims.specs.Facts.{facts_of}
+use Rattle.script_grammar.specs.Spells.{View}
+use Rattle.script_grammar.specs.Cases.{cases_of}
+use Rattle.script_grammar.specs.Ranges.{HasFewCases}
+use Rattle.script_grammar.specs.Names.{ClaimIsOf, NamesNodes}
 use Rattle.script_meets.specs.Meets.{Meets}
 use Rattle.cert_checker.specs.Met.{SlotIsAmong}
 use Rattle.cert_checker.specs.Steps.{case_facts}

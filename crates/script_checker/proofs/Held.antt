@@ -1,32 +1,35 @@
 -- What meets a script meets its subject.
-use Rattle.std.proofs.Common.{◌≡◌, ◌<◌, ℕ, zero, suc, List, [], ◌∷◌, Some, Result, Ok}
-use Rattle.std.proofs.Common.{Err, length, map, refl, sym, subst, arith}
+use Rattle.std.proofs.Common.{◌≡◌, ◌<◌, ℕ, zero, suc, List, [], ◌∷◌, Some, Result, Ok, Err, length}
+use Rattle.std.proofs.Common.{map, refl, sym, subst, arith}
 use Rattle.std.specs.Prelude.{slice_get, IfOk}
 use Rattle.std.specs.List.{AllByRecursion}
+use Rattle.std.proofs.lemmas.List.{length-map}
 use Rattle.fx_model.specs.Expression.{Assignment, IsOrdered}
 use Rattle.fx_model.specs.declared.Node.{Node}
-use Rattle.rewrite_hints.specs.facts.declared.fact.Fact.{Fact}
-use Rattle.rewrite_hints.specs.facts.declared.hint.HintRow.{HintRow}
-use Rattle.rewrite_hints.specs.facts.Holds.{Holds}
-use Rattle.rewrite_hints.specs.facts.Order.{slot_of}
-use Rattle.cert_checker.specs.goals.declared.goal.Goal.{Goal}
-use Rattle.cert_checker.specs.goals.declared.line.Line.{Line}
-use Rattle.cert_checker.specs.goals.Holds.{LineHolds}
-use Rattle.cert_checker.specs.theorem_list.Promises.{RowsAreTrue}
-use Rattle.script_meets.specs.script_claims.declared.claim.Claim.{Claim}
-use Rattle.script_meets.specs.script_claims.Facts.{hypothesis_fact, want_of, facts_all}
-use Rattle.script_meets.specs.script_claims.Facts.{goal_of, facts_of, slot_of as slot_of_claim}
-use Rattle.script_meets.specs.script_claims.Meets.{IsTrueAt}
-use Rattle.rewrite_hints.specs.script_hints.Meets.{MeetsHint}
-use Rattle.script_meets.specs.script_grammar.Spells.{View}
-use Rattle.script_meets.specs.script_grammar.Cases.{cases_of}
-use Rattle.script_meets.specs.script_grammar.Ranges.{HasFewCases}
-use Rattle.script_meets.specs.script_grammar.Names.{NamesNodes, HintIsOf}
+use Rattle.facts.specs.declared.fact.Fact.{Fact}
+use Rattle.facts.specs.declared.hint.HintRow.{HintRow}
+use Rattle.facts.specs.Holds.{Holds}
+use Rattle.facts.specs.Order.{slot_of}
+use Rattle.facts.specs.CommonParts.{all_at}
+use Rattle.goals.specs.declared.goal.Goal.{Goal}
+use Rattle.goals.specs.declared.line.Line.{Line}
+use Rattle.goals.specs.Holds.{LineHolds}
+use Rattle.theorem_list.specs.Promises.{RowsAreTrue}
+use Rattle.script_claims.specs.declared.claim.Claim.{Claim}
+use Rattle.script_claims.specs.Facts.{hypothesis_fact, want_of, facts_all, goal_of, facts_of}
+use Rattle.script_claims.specs.Facts.{slot_of as slot_of_claim}
+use Rattle.script_claims.specs.Meets.{IsTrueAt}
+use Rattle.script_hints.specs.Meets.{MeetsHint}
+use Rattle.script_grammar.specs.Spells.{View}
+use Rattle.script_grammar.specs.Cases.{cases_of}
+use Rattle.script_grammar.specs.Ranges.{HasFewCases}
+use Rattle.script_grammar.specs.Names.{NamesNodes, HintIsOf}
 use Rattle.script_meets.specs.Meets.{Meets, HintsAreMet}
+use Rattle.script_meets.specs.Held.{AreHeld}
 use Rattle.rewrite_hints.specs.Rows.{RowsAreTrue as HintRowsAreTrue}
 use Rattle.rewrite_hints.specs.Marks.{AreRows}
-use Rattle.cert_checker.specs.cert_bytes.declared.item.Item.{Item}
-use Rattle.cert_checker.specs.cert_bytes.Reading.{Cursor}
+use Rattle.cert_bytes.specs.declared.item.Item.{Item}
+use Rattle.cert_bytes.specs.Reading.{Cursor}
 use Rattle.cert_checker.specs.declared.fault.CheckStop.{CheckStop}
 use Rattle.cert_checker.specs.declared.lines.Lines.{Lines}
 use Rattle.cert_checker.specs.declared.subject.Subject.{Subject}
@@ -39,13 +42,10 @@ use Rattle.cert_checker.specs.Outcomes.{accepted, ComesOf, CheckedHolds}
 use Rattle.cert_checker.specs.Checking.{AreAccepted}
 use Rattle.script_checker.specs.Subjects.{IsSubjectOf}
 use Rattle.script_checker.specs.Checking.{AreAcceptedFor}
-use Rattle.script_meets.specs.Held.{AreHeld}
 use Rattle.script_checker.proofs.Settled.{ClaimLaws, settled}
 use Rattle.script_checker.proofs.CaseFacts.{some_case_met, cases_named, case_facts_named}
 use Rattle.script_checker.proofs.CaseFacts.{case_facts_held}
 use Rattle.script_checker.proofs.Named.{goals_named, hint_of, rows_named}
-use Rattle.rewrite_hints.specs.facts.CommonParts.{all_at}
-use Rattle.std.proofs.lemmas.List.{length-map}
 
 -- a claim's fact holds wherever the claim is true
 abbrev FactsHold : Type 0

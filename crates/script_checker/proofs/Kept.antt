@@ -1,6 +1,6 @@
 -- Items that are kept, for a script as for its subject.
 use Rattle.std.specs.Prelude.{Result, Ok, Err, IfOk}
-use Rattle.script_meets.specs.script_grammar.Spells.{View}
+use Rattle.script_grammar.specs.Spells.{View}
 use Rattle.cert_checker.specs.declared.fault.CheckStop.{CheckStop}
 use Rattle.cert_checker.specs.declared.keep.Accepted.{Accepted}
 use Rattle.cert_checker.specs.declared.subject.Subject.{Subject}

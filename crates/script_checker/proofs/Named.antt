@@ -1,6 +1,6 @@
 -- What a script's subject names are its nodes.
-use Rattle.std.proofs.Common.{◌≡◌, ◌<◌, ℕ, List, [], ◌∷◌, Option, Some, None, length}
-use Rattle.std.proofs.Common.{map, sym, subst, arith}
+use Rattle.std.proofs.Common.{◌≡◌, ◌<◌, ℕ, List, [], ◌∷◌, Option, Some, None, length, map, sym}
+use Rattle.std.proofs.Common.{subst, arith}
 use Rattle.std.specs.Prelude.{slice_get}
 use Rattle.std.specs.List.{AllByRecursion}
 use Rattle.std.proofs.lemmas.Option.{slice_get_within, get_or_from_slice_get}
@@ -8,36 +8,33 @@ use Rattle.fx_model.specs.Expression.{IsOrdered, ChildrenBelow}
 use Rattle.fx_model.specs.declared.ExprId.{ExprId}
 use Rattle.fx_model.specs.declared.Node.{Node}
 use Rattle.fx_model.specs.declared.Node.TheVariants.{Div}
-use Rattle.rewrite_hints.specs.interval.declared.interval.Interval.{Interval}
-use Rattle.rewrite_hints.specs.facts.declared.relative.RelativeError.{RelativeError}
-use Rattle.rewrite_hints.specs.facts.declared.place.FixPlace.{FixPlace}
-use Rattle.rewrite_hints.specs.facts.declared.fact.Fact.{Fact}
-use Rattle.rewrite_hints.specs.facts.RelativeConclusions.{rel_of}
-use Rattle.rewrite_hints.specs.facts.declared.hint.HintRow.{HintRow}
-use Rattle.rewrite_hints.specs.facts.Order.{slot_of}
-use Rattle.rewrite_hints.specs.facts.Parts.{error_of_part}
-use Rattle.rewrite_hints.specs.facts.Conclusions.{bnd_of, fix_of}
-use Rattle.rewrite_hints.specs.facts.Places.{place_from}
-use Rattle.rewrite_hints.specs.script_hints.expr_dag.Nodes.{IsAt}
-use Rattle.cert_checker.specs.goals.declared.goal.Goal.{Goal}
-use Rattle.rewrite_hints.specs.script_bounds.Bounds.{written_range, outward_of}
-use Rattle.script_meets.specs.script_claims.declared.claim.Claim.{Claim}
-use Rattle.script_meets.specs.script_claims.declared.claim.Claim.TheVariants.{Bounded, Asked}
-use Rattle.script_meets.specs.script_claims.declared.claim.Claim.TheVariants.{Relative}
-use Rattle.script_meets.specs.script_claims.declared.claim.Claim.TheVariants.{RelativeAsked}
-use Rattle.script_meets.specs.script_claims.declared.claim.Claim.TheVariants.{Multiple, Above}
-use Rattle.script_meets.specs.script_claims.declared.claim.Claim.TheVariants.{Below}
-use Rattle.script_meets.specs.script_claims.Facts.{hypothesis_fact, facts_all}
-use Rattle.script_meets.specs.script_claims.Facts.{goal_of, facts_of}
-use Rattle.rewrite_hints.specs.script_hints.declared.hint.Constraint.{Constraint}
-use Rattle.rewrite_hints.specs.script_hints.declared.hint.Constraint.TheVariants as constraint
-use Rattle.rewrite_hints.specs.script_hints.declared.hint.Hint.{Hint}
-use Rattle.rewrite_hints.specs.script_hints.Needs.{need_of}
-use Rattle.script_meets.specs.script_grammar.Names.{ClaimIsOf, ConstraintIsOf, HintIsOf}
+use Rattle.interval.specs.declared.interval.Interval.{Interval}
+use Rattle.expr_dag.specs.Nodes.{IsAt}
+use Rattle.facts.specs.declared.relative.RelativeError.{RelativeError}
+use Rattle.facts.specs.declared.place.FixPlace.{FixPlace}
+use Rattle.facts.specs.declared.fact.Fact.{Fact}
+use Rattle.facts.specs.RelativeConclusions.{rel_of}
+use Rattle.facts.specs.declared.hint.HintRow.{HintRow}
+use Rattle.facts.specs.Order.{slot_of}
+use Rattle.facts.specs.Parts.{error_of_part}
+use Rattle.facts.specs.Conclusions.{bnd_of, fix_of}
+use Rattle.facts.specs.Places.{place_from}
+use Rattle.facts.specs.CommonParts.{stands, all_from, all_at}
+use Rattle.goals.specs.declared.goal.Goal.{Goal}
+use Rattle.script_bounds.specs.Bounds.{written_range, outward_of}
+use Rattle.script_claims.specs.declared.claim.Claim.{Claim}
+use Rattle.script_claims.specs.declared.claim.Claim.TheVariants.{Bounded, Asked, Relative}
+use Rattle.script_claims.specs.declared.claim.Claim.TheVariants.{RelativeAsked, Multiple, Above}
+use Rattle.script_claims.specs.declared.claim.Claim.TheVariants.{Below}
+use Rattle.script_claims.specs.Facts.{hypothesis_fact, facts_all, goal_of, facts_of}
+use Rattle.script_hints.specs.declared.hint.Constraint.{Constraint}
+use Rattle.script_hints.specs.declared.hint.Constraint.TheVariants as constraint
+use Rattle.script_hints.specs.declared.hint.Hint.{Hint}
+use Rattle.script_hints.specs.Needs.{need_of}
+use Rattle.script_grammar.specs.Names.{ClaimIsOf, ConstraintIsOf, HintIsOf}
 use Rattle.rewrite_hints.specs.Rows.{IsRowOf}
 use Rattle.rewrite_hints.specs.Marks.{AreRows, AreKnownSides}
 use Rattle.cert_checker.specs.Met.{SlotIsAmong, NeedIsAmong, RowIsAmong}
-use Rattle.rewrite_hints.specs.facts.CommonParts.{stands, all_from, all_at}
 
 -- ---- facts and goals
 abbrev IsNamed : ℕ → Fact → Type 0

@@ -1,13 +1,12 @@
 -- A script has one subject, so what comes of bytes for it is answered.
-use Rattle.std.proofs.Common.{◌≡◌, ◌≤◌, ◌<◌, Result, Ok, Err, length}
-use Rattle.std.proofs.Common.{sym, ap, subst, ◌∙◌, arith}
+use Rattle.std.proofs.Common.{◌≡◌, ◌≤◌, ◌<◌, Result, Ok, Err, length, sym, ap, subst, ◌∙◌, arith}
 use Rattle.std.specs.Prelude.{IfOk}
 use Rattle.std.proofs.lemmas.List.{length-map}
-use Rattle.script_meets.specs.script_claims.Facts.{goal_of}
-use Rattle.script_meets.specs.script_grammar.Spells.{View}
-use Rattle.script_meets.specs.node_counts.Few.{HasFewHints}
+use Rattle.script_claims.specs.Facts.{goal_of}
+use Rattle.node_counts.specs.Few.{HasFewHints}
+use Rattle.script_grammar.specs.Spells.{View}
 use Rattle.rewrite_hints.specs.Marks.{AreMarks, marks_are_one, rows_are_one}
-use Rattle.cert_checker.specs.cert_bytes.Reading.{Cursor}
+use Rattle.cert_bytes.specs.Reading.{Cursor}
 use Rattle.cert_checker.specs.declared.fault.CheckStop.{CheckStop}
 use Rattle.cert_checker.specs.declared.fault.CheckStop.TheVariants.{Cert, Check, Failed}
 use Rattle.cert_checker.specs.declared.fault.CheckStop.TheVariants.{OutOfMemory}

@@ -4,25 +4,23 @@ use Rattle.std.specs.Option.{IsSomeAnd}
 use Rattle.fx_model.specs.Enclosure.{Lies, within_in}
 use Rattle.fx_model.specs.Expression.{Assignment, value}
 use Rattle.fx_model.specs.declared.Node.{Node}
-use Rattle.rewrite_hints.specs.interval.declared.interval.Interval.{Interval}
-use Rattle.rewrite_hints.specs.interval.Intervals.{range_of}
-use Rattle.rewrite_hints.specs.facts.declared.fact.Fact.{Fact}
-use Rattle.rewrite_hints.specs.facts.declared.fact.Fact.TheVariants as fact
-use Rattle.rewrite_hints.specs.facts.Holds.{Holds, IsRelated}
-use Rattle.rewrite_hints.specs.facts.Held.{some-and, related-wider}
-use Rattle.rewrite_hints.specs.facts.Order.{slot_of as slot_of_fact}
-use Rattle.cert_checker.specs.goals.declared.goal.Want.{Want}
-use Rattle.cert_checker.specs.goals.declared.goal.Want.TheVariants.{Ask, Inside}
-use Rattle.cert_checker.specs.goals.Lies.{LiesAt, AreZeroAt}
-use Rattle.cert_checker.specs.goals.Settles.{HasWanted}
-use Rattle.script_meets.specs.script_claims.declared.claim.Claim.{Claim}
-use Rattle.script_meets.specs.script_claims.declared.claim.Claim.TheVariants.{Bounded, Asked}
-use Rattle.script_meets.specs.script_claims.declared.claim.Claim.TheVariants.{Relative}
-use Rattle.script_meets.specs.script_claims.declared.claim.Claim.TheVariants.{RelativeAsked}
-use Rattle.script_meets.specs.script_claims.declared.claim.Claim.TheVariants.{Multiple, Above}
-use Rattle.script_meets.specs.script_claims.declared.claim.Claim.TheVariants.{Below}
-use Rattle.script_meets.specs.script_claims.Facts.{want_of, slot_of}
-use Rattle.script_meets.specs.script_claims.Meets.{IsTrueAt}
+use Rattle.interval.specs.declared.interval.Interval.{Interval}
+use Rattle.interval.specs.Intervals.{range_of}
+use Rattle.facts.specs.declared.fact.Fact.{Fact}
+use Rattle.facts.specs.declared.fact.Fact.TheVariants as fact
+use Rattle.facts.specs.Holds.{Holds, IsRelated}
+use Rattle.facts.specs.Held.{some-and, related-wider}
+use Rattle.facts.specs.Order.{slot_of as slot_of_fact}
+use Rattle.goals.specs.declared.goal.Want.{Want}
+use Rattle.goals.specs.declared.goal.Want.TheVariants.{Ask, Inside}
+use Rattle.goals.specs.Lies.{LiesAt, AreZeroAt}
+use Rattle.goals.specs.Settles.{HasWanted}
+use Rattle.script_claims.specs.declared.claim.Claim.{Claim}
+use Rattle.script_claims.specs.declared.claim.Claim.TheVariants.{Bounded, Asked, Relative}
+use Rattle.script_claims.specs.declared.claim.Claim.TheVariants.{RelativeAsked, Multiple, Above}
+use Rattle.script_claims.specs.declared.claim.Claim.TheVariants.{Below}
+use Rattle.script_claims.specs.Facts.{want_of, slot_of}
+use Rattle.script_claims.specs.Meets.{IsTrueAt}
 
 -- what is enough for a claim: what it is about lies in the interval that it wants, or both values
 -- are 0

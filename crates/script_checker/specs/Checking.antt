@@ -1,18 +1,18 @@
 -- What checking a script's certificate answers, and what its lines promise.
 use Rattle.std.specs.Prelude.{◌≡◌, ⊤, ℕ, List, Result, Ok, Err, IfOk}
 use Rattle.fx_model.specs.Expression.{Assignment, IsOrdered}
-use Rattle.cert_checker.specs.goals.declared.line.Line.{Line}
-use Rattle.script_meets.specs.script_grammar.Spells.{View}
-use Rattle.script_meets.specs.script_grammar.Names.{NamesNodes}
-use Rattle.script_meets.specs.script_grammar.Ranges.{HasFewCases}
+use Rattle.goals.specs.declared.line.Line.{Line}
+use Rattle.script_grammar.specs.Spells.{View}
+use Rattle.script_grammar.specs.Names.{NamesNodes}
+use Rattle.script_grammar.specs.Ranges.{HasFewCases}
 use Rattle.script_meets.specs.Meets.{Meets}
 use Rattle.script_meets.specs.Held.{AreHeld}
-use Rattle.cert_checker.specs.cert_bytes.declared.item.Item.{Item}
-use Rattle.cert_checker.specs.cert_bytes.declared.order.DueItem.TheVariants.{Head}
-use Rattle.cert_checker.specs.cert_bytes.Certificates.{SpellsCertificate}
-use Rattle.cert_checker.specs.cert_bytes.Pieces.{Ahead, cursor_of}
-use Rattle.cert_checker.specs.cert_bytes.ReadOut.{AreBytes, AreRead}
-use Rattle.cert_checker.specs.cert_bytes.Reading.{Cursor}
+use Rattle.cert_bytes.specs.declared.item.Item.{Item}
+use Rattle.cert_bytes.specs.declared.order.DueItem.TheVariants.{Head}
+use Rattle.cert_bytes.specs.Certificates.{SpellsCertificate}
+use Rattle.cert_bytes.specs.Pieces.{Ahead, cursor_of}
+use Rattle.cert_bytes.specs.ReadOut.{AreBytes, AreRead}
+use Rattle.cert_bytes.specs.Reading.{Cursor}
 use Rattle.cert_checker.specs.declared.fault.CheckStop.{CheckStop}
 use Rattle.cert_checker.specs.declared.fault.CheckStop.TheVariants as check_stop
 use Rattle.cert_checker.specs.declared.keep.Accepted.{Accepted}

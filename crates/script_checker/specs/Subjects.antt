@@ -1,8 +1,8 @@
 -- What a script asks of its certificates.
 use Rattle.std.specs.Prelude.{◌≡◌, map, length}
-use Rattle.script_meets.specs.script_claims.Facts.{goal_of, facts_of}
-use Rattle.script_meets.specs.script_grammar.Spells.{View}
-use Rattle.script_meets.specs.script_grammar.Cases.{cases_of}
+use Rattle.script_claims.specs.Facts.{goal_of, facts_of}
+use Rattle.script_grammar.specs.Spells.{View}
+use Rattle.script_grammar.specs.Cases.{cases_of}
 use Rattle.rewrite_hints.specs.Marks.{AreRows, AreMarks}
 use Rattle.cert_checker.specs.declared.subject.Subject.{Subject}
 

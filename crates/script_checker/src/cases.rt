@@ -1,11 +1,12 @@
 //! The cases of a script.
 ghost use Rattle.std.specs.Prelude.{◌≡◌, ◌<◌, Some, length, map, slice_get, IfOk};
-ghost use Rattle.script_meets.specs.script_claims.Facts as spec;
-ghost use Rattle.script_meets.specs.script_grammar.Cases.{cases_of};
+ghost use Rattle.script_claims.specs.Facts as spec;
+ghost use Rattle.script_grammar.specs.Cases.{cases_of};
 
 use fx_edge::Items;
-use rewrite_hints::Fact;
-use script_meets::{Script, facts_of};
+use facts::Fact;
+use script_grammar::Script;
+use script_claims::facts_of;
 use std::alloc::{AllocError, Global};
 
 // What the hypotheses of the case with this number, from 0, say.

@@ -3,19 +3,22 @@ ghost use Rattle.std.specs.Prelude.{◌≡◌, ℕ, List, Some, length, IfOk, Is
 ghost use Rattle.fx_model.specs.Expression.{Assignment};
 ghost use Rattle.fx_edge.specs.OnlyReads.{OnlyReads};
 ghost use Rattle.script_meets.specs.Meets.{Meets};
+ghost use Rattle.script_meets.specs.Held.{AreHeld};
 ghost use Rattle.rewrite_hints.specs.Marks.{AreMarks};
-ghost use Rattle.cert_checker.specs.cert_bytes.Pieces.{AgreesTold, name_of};
+ghost use Rattle.cert_bytes.specs.Pieces.{AgreesTold, name_of};
+ghost use Rattle.cert_bytes.specs.Calls.{ReadsOn};
 ghost use Rattle.cert_checker.specs.declared.fault.CheckStop.TheVariants as CheckStop;
 ghost use Rattle.cert_checker.specs.Checking.{IsFresh};
-ghost use Rattle.cert_checker.specs.cert_bytes.Calls.{ReadsOn};
 ghost use Rattle.script_checker.specs.Checking.{AnswersFor};
-ghost use Rattle.script_meets.specs.Held.{AreHeld};
 
 use crate::subject::subject_of;
-use cert_checker::{CheckStop, Lines, Reader, check_subject};
+use cert_checker::{CheckStop, Lines, check_subject};
+use cert_bytes::Reader;
 use fx_edge::Folder;
 use rewrite_hints::rows_are_true;
-use script_meets::{Script, goals_are_enough, hypotheses_hold, met_scripts};
+use script_grammar::Script;
+use script_claims::{goals_are_enough, hypotheses_hold};
+use script_meets::met_scripts;
 use std::alloc::Global;
 
 /// Checks the certificate under the reader's name for the script: its lines where it is accepted,

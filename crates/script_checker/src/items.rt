@@ -2,17 +2,18 @@
 ghost use Rattle.std.specs.Prelude.{◌≡◌, ℕ, List, Some, IfOk, IsErrOf};
 ghost use Rattle.std.specs.List.{AllByRecursion};
 ghost use Rattle.fx_edge.specs.OnlyReads.{OnlyReads};
-ghost use Rattle.cert_checker.specs.cert_bytes.Certificates.{HasSpelling};
-ghost use Rattle.cert_checker.specs.cert_bytes.Pieces.{AgreesTold, name_of};
-ghost use Rattle.cert_checker.specs.cert_bytes.Calls.{ReadsOn};
+ghost use Rattle.cert_bytes.specs.Certificates.{HasSpelling};
+ghost use Rattle.cert_bytes.specs.Pieces.{AgreesTold, name_of};
+ghost use Rattle.cert_bytes.specs.Calls.{ReadsOn};
 ghost use Rattle.cert_checker.specs.declared.fault.CheckStop.TheVariants as CheckStop;
 ghost use Rattle.cert_checker.specs.Checking.{IsFresh};
 ghost use Rattle.script_checker.specs.Checking.{AreAcceptedItemsFor, AnswersItemsFor};
 
 use crate::subject::subject_of;
-use cert_checker::{Accepted, CheckStop, Reader, accepted_items};
+use cert_checker::{Accepted, CheckStop, accepted_items};
+use cert_bytes::Reader;
 use fx_edge::Folder;
-use script_meets::Script;
+use script_grammar::Script;
 use std::alloc::Global;
 
 /// Checks the certificate under the reader's name for the script, as `check_script` does, and keeps

@@ -4,7 +4,8 @@ ghost use Rattle.script_checker.specs.Checking.{ChecksAreOne};
 
 use cert_checker::{accepted_lines_hold, items_are_judged_once};
 use rewrite_hints::rows_are_true;
-use script_meets::{goals_are_enough, hypotheses_hold, met_scripts};
+use script_claims::{goals_are_enough, hypotheses_hold};
+use script_meets::met_scripts;
 
 /// Nothing is done. The clauses tell a caller that the lines of an accepted certificate, and of
 /// bytes that are accepted, hold of every assignment that meets the script; and that its goals are

@@ -2,12 +2,6 @@
 //! of it.
 #![tactic(auto)]
 
-// What callers name of the crates below.
-pub use cert_checker::{CheckStop, Lines, bytes_are_accepted};
-pub use script_meets::{
-    ParseStop, Script, firsts_are_unique, parse, script_or_refusal, spelled_are_short,
-    spelled_have_few_cases, spelled_have_few_constraints, spelled_have_few_hints,
-};
 
 mod cases;
 mod check;

@@ -3,7 +3,7 @@ use Rattle.std.specs.Prelude.{◌≡◌, List, [], ◌∷◌, ◌++◌, refl}
 use Rattle.std.specs.List.{flat_map}
 use Rattle.std.proofs.Common.{ap, sym, ◌∙◌, append_assoc, append-nil}
 use Rattle.std.proofs.lemmas.Grind.{flat_map-append}
-use Rattle.script_nodes.specs.script_shape.Tree.{Formula, single, and, or, implies}
+use Rattle.script_shape.specs.Propositions.{Formula, single, and, or, implies}
 use Rattle.script_cases.specs.Cases.{all_items}
 use Rattle.script_cases.specs.Parts.{part_of}
 use Rattle.script_nodes.specs.Known.{Known}

@@ -1,27 +1,28 @@
 -- The words of a formula are read as its claims.
 use Rattle.std.specs.Prelude.{◌≡◌, ℤ, pos, List, [], ◌∷◌, ◌++◌, Some, None, Bool, true, false, refl}
 use Rattle.std.proofs.Common.{ap, sym, ◌∙◌, append_assoc, append-nil}
-use Rattle.goals.specs.fx_model.declared.ExprId.{ExprId}
-use Rattle.script_nodes.specs.script_words.declared.class.Symbol.TheVariants as s
-use Rattle.script_nodes.specs.script_words.declared.class.Spelled.TheVariants as spelled
-use Rattle.script_nodes.specs.script_words.Words.{Word, name, rounding, literal, sign}
-use Rattle.script_nodes.specs.script_shape.declared.due.Due.{Due}
-use Rattle.script_nodes.specs.script_shape.declared.due.Due.TheVariants as d
-use Rattle.script_nodes.specs.script_shape.Tree.{Special, free, defined, zero_alone, digits, Whole}
-use Rattle.script_nodes.specs.script_shape.Tree.{natural, opposite, Bound, unsigned, positive}
-use Rattle.script_nodes.specs.script_shape.Tree.{negative, Expr, Range, asked, between, Prop}
-use Rattle.script_nodes.specs.script_shape.Tree.{lies_in, relative_in, at_most, at_least, multiple}
-use Rattle.script_nodes.specs.script_shape.Tree.{Stated, affirmed, denied, Formula, single, and, or}
-use Rattle.script_nodes.specs.script_shape.Tree.{implies}
-use Rattle.script_nodes.specs.script_shape.Roles.{Leaf, at, special_leaves, whole_leaves}
-use Rattle.script_nodes.specs.script_shape.Roles.{bound_leaves, expr_leaves, range_leaves}
-use Rattle.script_nodes.specs.script_shape.Roles.{prop_leaves, stated_leaves, formula_leaves}
-use Rattle.script_nodes.specs.script_shape.Inner.{EachRole, IsInner, expr_inner}
+use Rattle.fx_model.specs.declared.ExprId.{ExprId}
+use Rattle.script_words.specs.declared.class.Symbol.TheVariants as s
+use Rattle.script_words.specs.declared.class.Spelled.TheVariants as spelled
+use Rattle.script_words.specs.Words.{Word, name, rounding, literal, sign}
+use Rattle.script_shape.specs.declared.due.Due.{Due}
+use Rattle.script_shape.specs.declared.due.Due.TheVariants as d
+use Rattle.script_shape.specs.Expressions.{Special, free, defined, zero_alone, digits, Whole}
+use Rattle.script_shape.specs.Expressions.{natural, opposite, Bound, unsigned, positive, negative}
+use Rattle.script_shape.specs.Expressions.{Expr}
+use Rattle.script_shape.specs.Propositions.{Range, asked, between, Prop, lies_in, relative_in}
+use Rattle.script_shape.specs.Propositions.{at_most, at_least, multiple, Stated, affirmed, denied}
+use Rattle.script_shape.specs.Propositions.{Formula, single, and, or, implies}
+use Rattle.script_shape.specs.Roles.{Leaf, at, special_leaves, whole_leaves, bound_leaves}
+use Rattle.script_shape.specs.Roles.{expr_leaves, range_leaves, prop_leaves, stated_leaves}
+use Rattle.script_shape.specs.Roles.{formula_leaves}
+use Rattle.script_shape.specs.Inner.{EachRole, IsInner, expr_inner}
 use Rattle.script_nodes.specs.Known.{Known, PlacedNode}
 use Rattle.script_nodes.specs.Values.{expr_value}
 use Rattle.script_nodes.specs.Waits.{Reading, waiting, expr_done, parted as comma_parted, read}
 use Rattle.script_nodes.specs.Waits.{read_all}
 use Rattle.script_nodes.specs.ReadingLaw.{ReadsTrees}
+use Rattle.script_nodes.specs.Written.{bound_written}
 use Rattle.script_claims.specs.declared.claim.Claim.{Claim}
 use Rattle.script_claims.specs.declared.claim.Claim.TheVariants.{Multiple}
 use Rattle.script_claims.specs.declared.proposition.Proposition.{Proposition}
@@ -31,7 +32,6 @@ use Rattle.script_claims.specs.declared.part.Part.TheVariants.{AtMost, AtLeast, 
 use Rattle.script_claims.specs.Claims.{exponent_of, ranged, relative, stated, Sides, Claims}
 use Rattle.script_claims.specs.Claims.{no_claims, prop_claim, then_goal, then_or, then_arrow}
 use Rattle.script_claims.specs.Claims.{then_claimed, formula_claims}
-use Rattle.script_nodes.specs.Written.{bound_written}
 use Rattle.script_claims.specs.Parts.{questioned, bounded, relation_behind, in_behind}
 use Rattle.script_claims.specs.Reads.{State, from_claims, taken, read_claim, read_claims}
 use Rattle.script_claims.specs.Reads.{ReadsFormulas}

@@ -1,12 +1,12 @@
 -- Nodes never go while the words of a formula are read.
 use Rattle.std.specs.Prelude.{ℕ, ◌≤◌, Option, Some, None, IfSome}
 use Rattle.std.proofs.Common.{le_refl, le_trans}
-use Rattle.goals.specs.fx_model.declared.ExprId.{ExprId}
-use Rattle.script_nodes.specs.script_words.declared.class.Symbol.{Symbol}
-use Rattle.script_nodes.specs.script_words.declared.class.Symbol.TheVariants as s
-use Rattle.script_nodes.specs.script_words.Words.{Word, name, rounding, literal, sign}
-use Rattle.script_nodes.specs.script_shape.declared.due.Due.{Due}
-use Rattle.script_nodes.specs.script_shape.declared.due.Due.TheVariants as d
+use Rattle.fx_model.specs.declared.ExprId.{ExprId}
+use Rattle.script_words.specs.declared.class.Symbol.{Symbol}
+use Rattle.script_words.specs.declared.class.Symbol.TheVariants as s
+use Rattle.script_words.specs.Words.{Word, name, rounding, literal, sign}
+use Rattle.script_shape.specs.declared.due.Due.{Due}
+use Rattle.script_shape.specs.declared.due.Due.TheVariants as d
 use Rattle.script_nodes.specs.Waits.{Complete, expr_done, read}
 use Rattle.script_nodes.specs.Growth.{node_count, EndsGrow, WordsGrow}
 use Rattle.script_claims.specs.declared.part.Part.{Part}

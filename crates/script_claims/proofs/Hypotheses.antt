@@ -2,31 +2,30 @@
 use Rattle.std.specs.Prelude.{◌≡◌, ℤ, List, Option, Some, None, refl}
 use Rattle.std.specs.Option.{IsSomeAnd}
 use Rattle.std.proofs.Common.{sym, subst, ap, ◌∙◌, inl, inr}
-use Rattle.goals.specs.fx_model.Fraction.{Fraction, neg_ℚ, one_ℚ, ◌<ℚ◌, lt_le}
-use Rattle.goals.specs.fx_model.Powers.{IsMultiple}
-use Rattle.goals.specs.fx_model.Enclosure.{Range, Lies, IsOrdered, IsEnclosure, ordered_by}
-use Rattle.goals.specs.fx_model.Enclosure.{in_enclosure}
-use Rattle.goals.specs.fx_model.Expression.{Assignment, value}
-use Rattle.goals.specs.fx_model.declared.Node.{Node}
-use Rattle.goals.specs.fx_model.declared.ExprId.{ExprId}
-use Rattle.goals.specs.dyadic.Ends.{bound_of}
-use Rattle.goals.specs.interval.declared.interval.Interval.{Interval}
-use Rattle.goals.specs.interval.Intervals.{range_of}
-use Rattle.goals.specs.interval.Meets.{interval_from_out}
-use Rattle.goals.specs.facts.declared.relative.RelativeError.{RelativeError}
-use Rattle.goals.specs.facts.declared.place.FixPlace.{FixPlace}
-use Rattle.goals.specs.facts.declared.fact.Fact.{Fact}
-use Rattle.goals.specs.facts.RelativeConclusions.{rel_of}
-use Rattle.goals.specs.facts.declared.fact.Fact.TheVariants as fact
-use Rattle.goals.specs.facts.Parts.{error_from-some, error_from_out, error_of_part}
-use Rattle.goals.specs.facts.Ranges.{IsBelow}
-use Rattle.goals.specs.facts.CommonParts.{some-inj}
-use Rattle.goals.specs.facts.Conclusions.{bnd_of, fix_of}
-use Rattle.goals.specs.facts.Holds.{IsRelated, Holds}
-use Rattle.goals.specs.facts.Held.{some-and}
-use Rattle.goals.specs.facts.Places.{place_from, place_from-some, place_from_out}
-use Rattle.script_nodes.specs.literal_order.declared.written.Written.{Written}
-use Rattle.script_nodes.specs.literal_order.Values.{written_value}
+use Rattle.fx_model.specs.Fraction.{Fraction, neg_ℚ, one_ℚ, ◌<ℚ◌, lt_le}
+use Rattle.fx_model.specs.Powers.{IsMultiple}
+use Rattle.fx_model.specs.Enclosure.{Range, Lies, IsOrdered, IsEnclosure, ordered_by, in_enclosure}
+use Rattle.fx_model.specs.Expression.{Assignment, value}
+use Rattle.fx_model.specs.declared.Node.{Node}
+use Rattle.fx_model.specs.declared.ExprId.{ExprId}
+use Rattle.dyadic.specs.Ends.{bound_of}
+use Rattle.interval.specs.declared.interval.Interval.{Interval}
+use Rattle.interval.specs.Intervals.{range_of}
+use Rattle.interval.specs.Meets.{interval_from_out}
+use Rattle.literal_order.specs.declared.written.Written.{Written}
+use Rattle.literal_order.specs.Values.{written_value}
+use Rattle.facts.specs.declared.relative.RelativeError.{RelativeError}
+use Rattle.facts.specs.declared.place.FixPlace.{FixPlace}
+use Rattle.facts.specs.declared.fact.Fact.{Fact}
+use Rattle.facts.specs.RelativeConclusions.{rel_of}
+use Rattle.facts.specs.declared.fact.Fact.TheVariants as fact
+use Rattle.facts.specs.Parts.{error_from-some, error_from_out, error_of_part}
+use Rattle.facts.specs.Ranges.{IsBelow}
+use Rattle.facts.specs.CommonParts.{some-inj}
+use Rattle.facts.specs.Conclusions.{bnd_of, fix_of}
+use Rattle.facts.specs.Holds.{IsRelated, Holds}
+use Rattle.facts.specs.Held.{some-and}
+use Rattle.facts.specs.Places.{place_from, place_from-some, place_from_out}
 use Rattle.script_bounds.specs.Bounds.{down_end, up_end, written_range, outward_of}
 use Rattle.script_claims.specs.declared.claim.Claim.{Claim}
 use Rattle.script_claims.specs.declared.claim.Claim.TheVariants.{Bounded, Asked, Relative}

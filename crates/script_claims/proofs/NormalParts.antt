@@ -1,7 +1,7 @@
 -- Bounds in normal form stay so.
 use Rattle.std.specs.Prelude.{Some}
-use Rattle.script_nodes.specs.literal_order.declared.written.Written.{Written}
-use Rattle.script_nodes.specs.literal_order.Values.{IsWritten}
+use Rattle.literal_order.specs.declared.written.Written.{Written}
+use Rattle.literal_order.specs.Values.{IsWritten}
 use Rattle.script_claims.specs.declared.part.Part.{Part}
 use Rattle.script_claims.specs.declared.part.Part.TheVariants.{Nothing, Against, In, RelativeIn}
 use Rattle.script_claims.specs.declared.part.Part.TheVariants.{AtMost, AtLeast, From, RelativeFrom}

@@ -1,21 +1,21 @@
 -- A claim is true where what it is about lies in the interval that it wants.
 use Rattle.std.specs.Prelude.{◌≡◌, List, Option, Some}
 use Rattle.std.proofs.Common.{inl, inr}
-use Rattle.goals.specs.fx_model.Fraction.{Fraction}
-use Rattle.goals.specs.fx_model.Enclosure.{Range, Lies}
-use Rattle.goals.specs.fx_model.Expression.{Assignment, value}
-use Rattle.goals.specs.fx_model.declared.Node.{Node}
-use Rattle.goals.specs.interval.declared.interval.Interval.{Interval}
-use Rattle.goals.specs.interval.Intervals.{range_of}
-use Rattle.goals.specs.facts.Holds.{AreZero, IsRelated}
-use Rattle.goals.specs.facts.Held.{some-and}
+use Rattle.fx_model.specs.Fraction.{Fraction}
+use Rattle.fx_model.specs.Enclosure.{Range, Lies}
+use Rattle.fx_model.specs.Expression.{Assignment, value}
+use Rattle.fx_model.specs.declared.Node.{Node}
+use Rattle.interval.specs.declared.interval.Interval.{Interval}
+use Rattle.interval.specs.Intervals.{range_of}
+use Rattle.facts.specs.Holds.{AreZero, IsRelated}
+use Rattle.facts.specs.Held.{some-and}
+use Rattle.goals.specs.declared.goal.Want.TheVariants.{Inside}
+use Rattle.goals.specs.Lies.{LiesAt, AreZeroAt}
 use Rattle.script_bounds.specs.Bounds.{written_range, inward_of}
 use Rattle.script_claims.specs.declared.claim.Claim.{Claim}
 use Rattle.script_claims.specs.declared.claim.Claim.TheVariants.{Bounded, Asked, Relative}
 use Rattle.script_claims.specs.declared.claim.Claim.TheVariants.{RelativeAsked, Above, Below}
 use Rattle.script_claims.specs.declared.claim.Claim.TheVariants.{Multiple}
-use Rattle.goals.specs.declared.goal.Want.TheVariants.{Inside}
-use Rattle.goals.specs.Lies.{LiesAt, AreZeroAt}
 use Rattle.script_claims.specs.Meets.{IsRelatedWithin, IsTrueAt}
 use Rattle.script_claims.specs.Facts.{want_of, slot_of}
 use Rattle.script_claims.proofs.Hypotheses.{both}

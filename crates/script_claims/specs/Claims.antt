@@ -2,11 +2,11 @@
 use Rattle.std.specs.Prelude.{◌≡◌, ℕ, ℤ, pos, neg_ℤ, List, [], ◌∷◌, ◌++◌, Some, None, Bool, true}
 use Rattle.std.specs.Prelude.{false, nat_lt, if◌then◌else◌}
 use Rattle.std.specs.Str.Parse.{digits_value}
-use Rattle.goals.specs.fx_model.declared.ExprId.{ExprId}
-use Rattle.script_nodes.specs.script_shape.Tree.{Whole, natural, opposite, Range, asked, between}
-use Rattle.script_nodes.specs.script_shape.Tree.{Prop, lies_in, relative_in, at_most, at_least}
-use Rattle.script_nodes.specs.script_shape.Tree.{multiple, Stated, affirmed, denied, Formula}
-use Rattle.script_nodes.specs.script_shape.Tree.{single, and, or, implies}
+use Rattle.fx_model.specs.declared.ExprId.{ExprId}
+use Rattle.script_shape.specs.Expressions.{Whole, natural, opposite}
+use Rattle.script_shape.specs.Propositions.{Range, asked, between, Prop, lies_in, relative_in}
+use Rattle.script_shape.specs.Propositions.{at_most, at_least, multiple, Stated, affirmed, denied}
+use Rattle.script_shape.specs.Propositions.{Formula, single, and, or, implies}
 use Rattle.script_cases.specs.Cases.{all_items}
 use Rattle.script_cases.specs.Parts.{Parts, nothing, with_item, behind_or}
 use Rattle.script_cases.specs.Parts.{behind_arrow as parts_behind_arrow}

@@ -1,21 +1,21 @@
 -- Claims of small formulas, worked out by hand.
 use Rattle.std.specs.Prelude.{◌≡◌, ℕ, pos, negsuc, codes, List, [], ◌∷◌, Some, None, true, false}
 use Rattle.std.specs.Prelude.{refl}
-use Rattle.goals.specs.fx_model.declared.ExprId.{ExprId}
-use Rattle.script_nodes.specs.script_words.declared.class.Spelled.TheVariants.{Plain}
-use Rattle.script_nodes.specs.script_words.declared.class.Number.TheVariants.{Digits, Other}
-use Rattle.script_nodes.specs.script_shape.Tree.{free, digits, opposite, unsigned, positive}
-use Rattle.script_nodes.specs.script_shape.Tree.{negative, Expr, term, factor, product, atom, Atom}
-use Rattle.script_nodes.specs.script_shape.Tree.{variable, asked, between, lies_in, relative_in}
-use Rattle.script_nodes.specs.script_shape.Tree.{at_most, at_least, multiple, affirmed, denied}
-use Rattle.script_nodes.specs.script_shape.Tree.{Formula, single, and, or, implies}
+use Rattle.fx_model.specs.declared.ExprId.{ExprId}
+use Rattle.literal_order.specs.declared.written.Written.{Written}
+use Rattle.script_words.specs.declared.class.Spelled.TheVariants.{Plain}
+use Rattle.script_words.specs.declared.class.Number.TheVariants.{Digits, Other}
+use Rattle.script_shape.specs.Expressions.{free, digits, opposite, unsigned, positive, negative}
+use Rattle.script_shape.specs.Expressions.{Expr, term, factor, product, atom, Atom, variable}
+use Rattle.script_shape.specs.Propositions.{asked, between, lies_in, relative_in, at_most, at_least}
+use Rattle.script_shape.specs.Propositions.{multiple, affirmed, denied, Formula, single, and, or}
+use Rattle.script_shape.specs.Propositions.{implies}
+use Rattle.script_cases.specs.Cases.{cases}
 use Rattle.script_nodes.specs.Literals.{parts_of, tens_out, twos_out, literal_of}
 use Rattle.script_nodes.specs.Known.{nothing_known, put, variable_put, named}
-use Rattle.script_nodes.specs.literal_order.declared.written.Written.{Written}
 use Rattle.script_claims.specs.declared.claim.Claim.TheVariants.{Bounded, Asked, Relative}
 use Rattle.script_claims.specs.declared.claim.Claim.TheVariants.{RelativeAsked, Above, Below}
 use Rattle.script_claims.specs.declared.claim.Claim.TheVariants.{Multiple}
-use Rattle.script_cases.specs.Cases.{cases}
 use Rattle.script_claims.specs.declared.claim.Claim.{Claim}
 use Rattle.script_claims.specs.Claims.{exponent_size, formula_claims}
 

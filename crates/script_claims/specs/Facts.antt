@@ -2,29 +2,29 @@
 -- goal, rounded inward.
 use Rattle.std.specs.Prelude.{◌≡◌, ⊤, List, [], ◌∷◌, Option, Some, None, refl}
 use Rattle.std.specs.List.{AllByRecursion}
-use Rattle.goals.specs.fx_model.Fraction.{neg_ℚ, one_ℚ}
-use Rattle.goals.specs.fx_model.Enclosure.{IsOrdered}
-use Rattle.goals.specs.fx_model.declared.ExprId.{ExprId}
-use Rattle.goals.specs.dyadic.Ends.{bound_of}
-use Rattle.goals.specs.interval.declared.interval.Interval.{Interval}
-use Rattle.goals.specs.facts.declared.fact.Fact.{Fact}
-use Rattle.goals.specs.facts.declared.fact.Slot.{Slot}
-use Rattle.goals.specs.facts.declared.fact.Slot.TheVariants as slot
-use Rattle.goals.specs.facts.Parts.{error_of_part}
-use Rattle.goals.specs.facts.Conclusions.{bnd_of, fix_of}
-use Rattle.goals.specs.facts.RelativeConclusions.{rel_of}
-use Rattle.goals.specs.facts.Ranges.{IsBelow}
-use Rattle.goals.specs.facts.Places.{IsPlace, place_from}
-use Rattle.script_nodes.specs.literal_order.Values.{IsWritten}
+use Rattle.fx_model.specs.Fraction.{neg_ℚ, one_ℚ}
+use Rattle.fx_model.specs.Enclosure.{IsOrdered}
+use Rattle.fx_model.specs.declared.ExprId.{ExprId}
+use Rattle.dyadic.specs.Ends.{bound_of}
+use Rattle.interval.specs.declared.interval.Interval.{Interval}
+use Rattle.literal_order.specs.Values.{IsWritten}
+use Rattle.facts.specs.declared.fact.Fact.{Fact}
+use Rattle.facts.specs.declared.fact.Slot.{Slot}
+use Rattle.facts.specs.declared.fact.Slot.TheVariants as slot
+use Rattle.facts.specs.Parts.{error_of_part}
+use Rattle.facts.specs.Conclusions.{bnd_of, fix_of}
+use Rattle.facts.specs.RelativeConclusions.{rel_of}
+use Rattle.facts.specs.Ranges.{IsBelow}
+use Rattle.facts.specs.Places.{IsPlace, place_from}
+use Rattle.goals.specs.declared.goal.Goal.{Goal}
+use Rattle.goals.specs.declared.goal.Want.{Want}
+use Rattle.goals.specs.declared.goal.Want.TheVariants.{Ask, Inside}
 use Rattle.script_bounds.specs.Bounds.{low_of, high_of, down_end, written_range, outward_of}
 use Rattle.script_bounds.specs.Bounds.{inward_of}
 use Rattle.script_claims.specs.declared.claim.Claim.{Claim}
 use Rattle.script_claims.specs.declared.claim.Claim.TheVariants.{Bounded, Asked, Relative}
 use Rattle.script_claims.specs.declared.claim.Claim.TheVariants.{RelativeAsked, Above, Below}
 use Rattle.script_claims.specs.declared.claim.Claim.TheVariants.{Multiple}
-use Rattle.goals.specs.declared.goal.Goal.{Goal}
-use Rattle.goals.specs.declared.goal.Want.{Want}
-use Rattle.goals.specs.declared.goal.Want.TheVariants.{Ask, Inside}
 
 -- the bounds that are there have literals in normal form
 abbrev pub HasNormalBounds : Claim → Type 0

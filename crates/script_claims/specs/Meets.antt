@@ -1,14 +1,14 @@
 -- What a claim says of an assignment, with bounds exactly as they are written.
 use Rattle.std.specs.Prelude.{◌≢◌, ◌⊎◌, ⊤, List, Some}
 use Rattle.std.specs.Option.{IsSomeAnd}
-use Rattle.goals.specs.fx_model.Fraction.{Fraction, ◌<ℚ◌, ◌-ℚ◌, ◌/ℚ◌, zero_ℚ, one_ℚ}
-use Rattle.goals.specs.fx_model.Powers.{IsMultiple}
-use Rattle.goals.specs.fx_model.Enclosure.{Range, Lies}
-use Rattle.goals.specs.fx_model.Expression.{Assignment, value}
-use Rattle.goals.specs.fx_model.declared.Node.{Node}
-use Rattle.goals.specs.facts.Holds.{AreZero}
+use Rattle.fx_model.specs.Fraction.{Fraction, ◌<ℚ◌, ◌-ℚ◌, ◌/ℚ◌, zero_ℚ, one_ℚ}
+use Rattle.fx_model.specs.Powers.{IsMultiple}
+use Rattle.fx_model.specs.Enclosure.{Range, Lies}
+use Rattle.fx_model.specs.Expression.{Assignment, value}
+use Rattle.fx_model.specs.declared.Node.{Node}
+use Rattle.literal_order.specs.Values.{written_value}
+use Rattle.facts.specs.Holds.{AreZero}
 use Rattle.goals.specs.Lies.{OfBoth}
-use Rattle.script_nodes.specs.literal_order.Values.{written_value}
 use Rattle.script_bounds.specs.Bounds.{written_range}
 use Rattle.script_claims.specs.declared.claim.Claim.{Claim}
 use Rattle.script_claims.specs.declared.claim.Claim.TheVariants.{Bounded, Asked, Relative}

@@ -1,14 +1,14 @@
 -- What signs, bounds and whole numbers make of a proposition that is being read.
 use Rattle.std.specs.Prelude.{⊤, pos, neg_ℤ, true, false, Some, None}
-use Rattle.goals.specs.fx_model.declared.ExprId.{ExprId}
-use Rattle.script_nodes.specs.script_words.declared.class.Symbol.{Symbol}
-use Rattle.script_nodes.specs.script_words.declared.class.Symbol.TheVariants as s
-use Rattle.script_nodes.specs.script_words.Words.{Word, literal, sign}
-use Rattle.script_nodes.specs.script_shape.declared.due.Due.{Due}
-use Rattle.script_nodes.specs.script_shape.declared.due.Due.TheVariants as d
+use Rattle.fx_model.specs.declared.ExprId.{ExprId}
+use Rattle.literal_order.specs.declared.written.Written.{Written}
+use Rattle.literal_order.specs.Values.{IsWritten}
+use Rattle.script_words.specs.declared.class.Symbol.{Symbol}
+use Rattle.script_words.specs.declared.class.Symbol.TheVariants as s
+use Rattle.script_words.specs.Words.{Word, literal, sign}
+use Rattle.script_shape.specs.declared.due.Due.{Due}
+use Rattle.script_shape.specs.declared.due.Due.TheVariants as d
 use Rattle.script_nodes.specs.Literals.{literal_of}
-use Rattle.script_nodes.specs.literal_order.declared.written.Written.{Written}
-use Rattle.script_nodes.specs.literal_order.Values.{IsWritten}
 use Rattle.script_claims.specs.declared.claim.Claim.TheVariants as claim
 use Rattle.script_claims.specs.Claims.{exponent_size}
 use Rattle.script_claims.specs.Facts.{HasNormalBounds}

@@ -1,12 +1,12 @@
 -- The claims of a formula, word by word from the left.
 use Rattle.std.specs.Prelude.{◌≡◌, ◌≤◌, List, [], ◌∷◌, ◌++◌, Option, Some, None}
-use Rattle.goals.specs.fx_model.declared.ExprId.{ExprId}
-use Rattle.script_nodes.specs.script_words.declared.class.Symbol.TheVariants as s
-use Rattle.script_nodes.specs.script_words.Words.{Word, sign}
-use Rattle.script_nodes.specs.script_shape.declared.due.Due.{Due}
-use Rattle.script_nodes.specs.script_shape.declared.due.Due.TheVariants as d
-use Rattle.script_nodes.specs.script_shape.Tree.{Formula}
-use Rattle.script_nodes.specs.script_shape.Roles.{Leaf, at, formula_leaves}
+use Rattle.fx_model.specs.declared.ExprId.{ExprId}
+use Rattle.script_words.specs.declared.class.Symbol.TheVariants as s
+use Rattle.script_words.specs.Words.{Word, sign}
+use Rattle.script_shape.specs.declared.due.Due.{Due}
+use Rattle.script_shape.specs.declared.due.Due.TheVariants as d
+use Rattle.script_shape.specs.Propositions.{Formula}
+use Rattle.script_shape.specs.Roles.{Leaf, at, formula_leaves}
 use Rattle.script_nodes.specs.Known.{Known}
 use Rattle.script_nodes.specs.Waits.{Reading, Complete, expr_done, read}
 use Rattle.script_nodes.specs.Growth.{node_count}

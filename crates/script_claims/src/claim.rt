@@ -3,8 +3,12 @@ ghost use Rattle.script_claims.specs.Claims.{denial};
 ghost use Rattle.script_claims.specs.Facts.{HasNormalBounds, hypothesis_fact, want_of, slot_of};
 ghost use Rattle.script_claims.specs.Facts.{relative_fact};
 
-use goals::{ExprId, Fact, FixPlace, Interval, RelativeError, Slot, Want};
-use script_bounds::{Written, inward, outward};
+use fx_model::ExprId;
+use facts::{Fact, FixPlace, RelativeError, Slot};
+use interval::Interval;
+use goals::Want;
+use literal_order::Written;
+use script_bounds::{inward, outward};
 
 /// What a proposition says of the nodes of its expressions.
 #[derive(Clone, Copy, PartialEq, Eq, Debug)]

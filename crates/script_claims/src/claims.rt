@@ -5,7 +5,8 @@ ghost use Rattle.script_claims.specs.Facts as spec;
 ghost use Rattle.script_claims.specs.Facts.{HasNormalBounds};
 
 use crate::claim::Claim;
-use goals::{Fact, Goal};
+use facts::Fact;
+use goals::Goal;
 use std::alloc::{AllocError, Global};
 
 /// One goal for each claim, in their order; an error only where memory runs out.

@@ -1,13 +1,13 @@
 // What claims promise, for callers to cite. Nothing here is done at run time.
 ghost use Rattle.std.specs.Prelude.{◌≡◌, List, Some};
-ghost use Rattle.goals.specs.fx_model.declared.Node.{Node};
-ghost use Rattle.goals.specs.fx_model.Expression.{Assignment};
-ghost use Rattle.goals.specs.interval.declared.interval.Interval.{Interval};
-ghost use Rattle.goals.specs.facts.declared.fact.Fact.{Fact};
-ghost use Rattle.goals.specs.facts.Holds.{Holds};
-ghost use Rattle.script_claims.specs.declared.claim.Claim.{Claim};
+ghost use Rattle.fx_model.specs.declared.Node.{Node};
+ghost use Rattle.fx_model.specs.Expression.{Assignment};
+ghost use Rattle.interval.specs.declared.interval.Interval.{Interval};
+ghost use Rattle.facts.specs.declared.fact.Fact.{Fact};
+ghost use Rattle.facts.specs.Holds.{Holds};
 ghost use Rattle.goals.specs.declared.goal.Want.TheVariants.{Inside};
 ghost use Rattle.goals.specs.Lies.{LiesAt, AreZeroAt};
+ghost use Rattle.script_claims.specs.declared.claim.Claim.{Claim};
 ghost use Rattle.script_claims.specs.Meets.{IsTrueAt};
 ghost use Rattle.script_claims.specs.Facts.{hypothesis_fact, IsHypothesis, want_of, slot_of};
 ghost use Rattle.script_claims.specs.Claims.{PartsHaveHypotheses};

@@ -1,8 +1,6 @@
 //! What the propositions of a formula claim, with their bounds as they are written.
 #![tactic(auto)]
 
-// What callers name of the crates below.
-pub use goals::{Line, lines_hold};
 
 mod claim;
 mod claims;
@@ -15,9 +13,6 @@ mod sides;
 
 pub use claim::Claim;
 pub use claims::{facts_of, goals_of};
-pub use goals::Want;
-pub use laws::{
-    claims_only_grow, formulas_are_read, goals_are_enough, hypotheses_hold, parts_have_hypotheses,
-};
+pub use laws::{claims_only_grow, formulas_are_read, goals_are_enough, hypotheses_hold, parts_have_hypotheses};
 pub use reader::ClaimReader;
 pub use sides::Sides;

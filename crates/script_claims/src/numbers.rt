@@ -3,7 +3,7 @@
 ghost use Rattle.std.specs.Prelude.{◌≡◌, ◌≤◌, ◌≤ℤ◌, pos};
 ghost use Rattle.script_claims.specs.Claims as spec;
 
-use script_nodes::number_below;
+use script_words::digits::number_below;
 
 /// The number that digits write, and 1025 where they write more.
 #[tactic(auto, unfolding(crate::specs::Claims::exponent_size))]

@@ -1,13 +1,14 @@
 //! How far a proposition was read.
 
 ghost use Rattle.std.specs.Prelude.{◌≡◌};
-ghost use Rattle.script_nodes.specs.script_words.Named.{word_of};
+ghost use Rattle.script_words.specs.Named.{word_of};
 ghost use Rattle.script_claims.specs.Parts as spec;
 
 use crate::claim::Claim;
-use goals::ExprId;
-use script_bounds::Written;
-use script_nodes::{Symbol, Word};
+use fx_model::ExprId;
+use literal_order::Written;
+use script_words::class::Symbol;
+use script_words::words::Word;
 
 /// What of a proposition stands before the word in hand.
 #[derive(Clone, Copy, PartialEq, Eq, Debug)]

@@ -1,16 +1,18 @@
 //! A proposition that is being read.
 
 ghost use Rattle.std.specs.Prelude.{◌≡◌, true};
-ghost use Rattle.script_nodes.specs.script_words.Named.{word_of};
+ghost use Rattle.script_words.specs.Named.{word_of};
 ghost use Rattle.script_nodes.specs.Literals as spec_literals;
 ghost use Rattle.script_claims.specs.Parts as spec;
 ghost use Rattle.script_claims.specs.Parts.{IsNormalPart};
 
 use crate::numbers::exponent_size;
 use crate::part::Part;
-use script_bounds::Written;
+use literal_order::Written;
 use script_nodes::digits::literal_of;
-use script_nodes::{Due, Symbol, Word};
+use script_shape::due::Due;
+use script_words::class::Symbol;
+use script_words::words::Word;
 
 /// A proposition as far as it was read.
 #[derive(Clone, Copy, PartialEq, Eq, Debug)]

@@ -1,7 +1,7 @@
 //! The claims of a formula, read word by word.
 
 ghost use Rattle.std.specs.Prelude.{◌≡◌, ◌<◌, All, length, None, Err, OnOk, IfErr};
-ghost use Rattle.script_nodes.specs.script_words.Named.{word_of};
+ghost use Rattle.script_words.specs.Named.{word_of};
 ghost use Rattle.script_claims.specs.Facts.{HasNormalBounds};
 ghost use Rattle.script_claims.specs.Claims.{stated, no_sides, with_goal, behind_or_sign};
 ghost use Rattle.script_claims.specs.Claims.{behind_arrow};
@@ -13,7 +13,11 @@ use crate::part::Part;
 use crate::proposition::{NOTHING_READ, Proposition};
 use crate::sides::Sides;
 use script_nodes::reader::NodeReader;
-use script_nodes::{DagFault, Due, ExprId, Symbol, Word};
+use expr_dag::DagFault;
+use script_shape::due::Due;
+use fx_model::ExprId;
+use script_words::class::Symbol;
+use script_words::words::Word;
 use std::alloc::Global;
 use std::marker::Model;
 

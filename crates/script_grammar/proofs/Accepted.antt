@@ -3,27 +3,26 @@ use Rattle.std.specs.Prelude.{◌≡◌, ℕ, List, length, take, None, Result, 
 use Rattle.std.specs.Prelude.{true, false, refl}
 use Rattle.std.proofs.Common.{sym, ap, ◌∙◌, subst}
 use Rattle.std.proofs.Math.Seq.{take-length}
-use Rattle.goal_spans.specs.script_words.Lex.{Lexes, LexesOnce}
-use Rattle.goal_spans.specs.script_words.Words.{Word}
-use Rattle.goal_spans.specs.script_words.Named.{words_of}
-use Rattle.goal_spans.specs.script_shape.Tree.{Script, script_words, IsScript}
-use Rattle.goal_spans.specs.script_shape.Roles.{script_leaves, HasRoles, LeavesAreOfTrees}
-use Rattle.goal_spans.specs.script_shape.ShapeLaw.{IsShapeOf}
-use Rattle.node_counts.specs.script_judge.declared.refusal.Refusal.{Refusal}
-use Rattle.node_counts.specs.script_judge.Reading.{Reading, IsReadingOf}
-use Rattle.node_counts.specs.script_judge.First.{IsFirstRefusal}
-use Rattle.node_counts.specs.script_claims.Claims.{Sides}
-use Rattle.node_counts.specs.script_hints.Reading.{HintReading}
+use Rattle.script_words.specs.Lex.{Lexes, LexesOnce}
+use Rattle.script_words.specs.Words.{Word}
+use Rattle.script_words.specs.Named.{words_of}
+use Rattle.script_shape.specs.Tree.{Script, script_words, IsScript}
+use Rattle.script_shape.specs.Roles.{script_leaves, HasRoles, LeavesAreOfTrees}
+use Rattle.script_shape.specs.ShapeLaw.{IsShapeOf}
 use Rattle.goal_spans.specs.declared.span.Span.{Span}
 use Rattle.goal_spans.specs.Reading.{spans_read, ReadsSpans}
+use Rattle.script_judge.specs.declared.refusal.Refusal.{Refusal}
+use Rattle.script_judge.specs.Reading.{Reading, IsReadingOf}
+use Rattle.script_judge.specs.First.{IsFirstRefusal}
+use Rattle.script_claims.specs.Claims.{Sides}
+use Rattle.script_hints.specs.Reading.{HintReading}
 use Rattle.script_grammar.specs.declared.stage.Stage.{Stage}
 use Rattle.script_grammar.specs.declared.stage.Stage.TheVariants as stage
 use Rattle.script_grammar.specs.declared.reading.ParseStop.{ParseStop}
 use Rattle.script_grammar.specs.declared.reading.ParseStop.TheVariants as stop
 use Rattle.script_grammar.specs.Meaning.{Meaning, meaning_of}
 use Rattle.script_grammar.specs.Steps as steps
-use Rattle.script_grammar.specs.Steps.{hinting, read_leaves, all_read}
-use Rattle.script_grammar.specs.Steps.{ReadsScripts}
+use Rattle.script_grammar.specs.Steps.{hinting, read_leaves, all_read, ReadsScripts}
 use Rattle.script_grammar.specs.Spells.{View, view_of, Spells, IsSpelled, SpellsOnce, SpellsAll}
 use Rattle.script_grammar.specs.Views.{step_of}
 use Rattle.script_grammar.proofs.Once.{meaning_at}

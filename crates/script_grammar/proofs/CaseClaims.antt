@@ -3,9 +3,9 @@ use Rattle.std.specs.Prelude.{◌≡◌, ℕ, zero, suc, List, [], ◌∷◌, So
 use Rattle.std.specs.List.{slice_get, AllByRecursion}
 use Rattle.std.proofs.Common.{subst, Result, Ok, Err, IfOk}
 use Rattle.std.proofs.lemmas.List.Elements.{All-from_recursion, recursion_from_All}
-use Rattle.node_counts.specs.script_cases.Cases.{cases, all_items}
-use Rattle.node_counts.specs.script_cases.Counted.{all_of_cases}
-use Rattle.node_counts.specs.script_claims.declared.claim.Claim.{Claim}
+use Rattle.script_cases.specs.Cases.{cases, all_items}
+use Rattle.script_cases.specs.Counted.{all_of_cases}
+use Rattle.script_claims.specs.declared.claim.Claim.{Claim}
 
 one_of : {A : Type 0} (P : A → Type 0) (xs : List A) (n : ℕ) (x : A) → AllByRecursion P xs
     → slice_get xs n ≡ Some x → P x

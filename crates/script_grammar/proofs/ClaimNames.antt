@@ -2,26 +2,25 @@
 use Rattle.std.specs.Prelude.{ℕ, ◌≤◌, List, Some, None}
 use Rattle.std.specs.List.{AllByRecursion}
 use Rattle.std.proofs.Common.{arith}
-use Rattle.node_counts.specs.fx_model.declared.ExprId.{ExprId}
-use Rattle.goal_spans.specs.script_shape.Tree.{Range, asked, between, Prop, lies_in, relative_in}
-use Rattle.goal_spans.specs.script_shape.Tree.{at_most, at_least, multiple, Stated, affirmed}
-use Rattle.goal_spans.specs.script_shape.Tree.{denied, Formula, single, and, or, implies}
-use Rattle.node_counts.specs.script_nodes.Known.{Known, PlacedNode}
-use Rattle.node_counts.specs.script_nodes.Values.{expr_value}
-use Rattle.node_counts.specs.script_nodes.Growth.{node_count}
-use Rattle.node_counts.specs.script_claims.declared.claim.Claim.{Claim}
-use Rattle.node_counts.specs.script_claims.declared.claim.Claim.TheVariants.{Bounded, Asked}
-use Rattle.node_counts.specs.script_claims.declared.claim.Claim.TheVariants.{Relative}
-use Rattle.node_counts.specs.script_claims.declared.claim.Claim.TheVariants.{RelativeAsked, Above}
-use Rattle.node_counts.specs.script_claims.declared.claim.Claim.TheVariants.{Below, Multiple}
-use Rattle.node_counts.specs.script_claims.Claims.{Claims, exponent_of, ranged, relative, of_value}
-use Rattle.node_counts.specs.script_claims.Claims.{prop_claim, denial, stated_claim, then_claimed}
-use Rattle.node_counts.specs.script_claims.Claims.{then_or, then_arrow, no_claims, formula_claims}
-use Rattle.node_counts.specs.script_nodes.Written.{bound_written}
+use Rattle.fx_model.specs.declared.ExprId.{ExprId}
+use Rattle.facts.specs.CommonParts.{all_as}
+use Rattle.script_shape.specs.Propositions.{Range, asked, between, Prop, lies_in, relative_in}
+use Rattle.script_shape.specs.Propositions.{at_most, at_least, multiple, Stated, affirmed, denied}
+use Rattle.script_shape.specs.Propositions.{Formula, single, and, or, implies}
+use Rattle.script_cases.specs.Lists.{all_joined}
+use Rattle.script_nodes.specs.Known.{Known, PlacedNode}
+use Rattle.script_nodes.specs.Values.{expr_value}
+use Rattle.script_nodes.specs.Growth.{node_count}
+use Rattle.script_nodes.specs.Written.{bound_written}
+use Rattle.script_claims.specs.declared.claim.Claim.{Claim}
+use Rattle.script_claims.specs.declared.claim.Claim.TheVariants.{Bounded, Asked, Relative}
+use Rattle.script_claims.specs.declared.claim.Claim.TheVariants.{RelativeAsked, Above, Below}
+use Rattle.script_claims.specs.declared.claim.Claim.TheVariants.{Multiple}
+use Rattle.script_claims.specs.Claims.{Claims, exponent_of, ranged, relative, of_value, prop_claim}
+use Rattle.script_claims.specs.Claims.{denial, stated_claim, then_claimed, then_or, then_arrow}
+use Rattle.script_claims.specs.Claims.{no_claims, formula_claims}
 use Rattle.script_grammar.specs.Names.{IsNode, ClaimIsOf}
-use Rattle.node_counts.specs.script_cases.Lists.{all_joined}
 use Rattle.script_grammar.proofs.ExpressionNames.{Fits, Grows, grows_both, Sits, expr_sits}
-use Rattle.node_counts.specs.facts.CommonParts.{all_as}
 
 claim_more : (n m : ℕ) → n ≤ m → (c : Claim) → ClaimIsOf n c → ClaimIsOf m c
 claim_more n m h (Bounded x lower upper) f = omega arith

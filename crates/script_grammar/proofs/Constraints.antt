@@ -1,42 +1,39 @@
 -- Each constraint of a hint is written in four words at least.
-use Rattle.std.specs.Prelude.{◌≡◌, ◌≤◌, ◌+◌, ◌*◌, ◌^◌, ℕ, List, [], ◌∷◌, ◌++◌, length, Option}
-use Rattle.std.specs.Prelude.{None, option_to_list, refl}
+use Rattle.std.specs.Prelude.{◌≡◌, ◌≤◌, ◌+◌, ◌*◌, ◌^◌, ℕ, List, [], ◌∷◌, ◌++◌, length, Option, None}
+use Rattle.std.specs.Prelude.{option_to_list, refl}
 use Rattle.std.proofs.Common.{arith, sym, ap, subst}
 use Rattle.std.proofs.lemmas.List.{length-append}
-use Rattle.goal_spans.specs.script_words.declared.class.Symbol.TheVariants as s
-use Rattle.goal_spans.specs.script_words.declared.lex.Token.{Token}
-use Rattle.goal_spans.specs.script_words.Lex.{TokensAreFew}
-use Rattle.goal_spans.specs.script_words.Named.{Naming, nothing, naming_after, defined_by}
-use Rattle.goal_spans.specs.script_words.Named.{token_word, words_from}
-use Rattle.goal_spans.specs.script_words.declared.class.Number.TheVariants as digits_kind
-use Rattle.goal_spans.specs.script_words.Words.{Word, literal, sign}
-use Rattle.goal_spans.specs.script_shape.Tree.{Bound, unsigned}
-use Rattle.goal_spans.specs.script_shape.Tree.{positive, negative, bound_words}
-use Rattle.goal_spans.specs.script_shape.Tree.{operator_words, Expr, term, sum}
-use Rattle.goal_spans.specs.script_shape.Tree.{difference, expr_words, Term, factor, product}
-use Rattle.goal_spans.specs.script_shape.Tree.{quotient, term_words, Factor, negation, atom}
-use Rattle.goal_spans.specs.script_shape.Tree.{factor_words, Atom, number, variable, parenthesized}
-use Rattle.goal_spans.specs.script_shape.Tree.{absolute, called, rounded, fused, atom_words, Need}
-use Rattle.goal_spans.specs.script_shape.Tree.{nonzero, below, not_above, above, not_below}
-use Rattle.goal_spans.specs.script_shape.Tree.{need_words, NeedList, last_need, more_needs}
-use Rattle.goal_spans.specs.script_shape.Tree.{need_list_words, Needs, always, provided}
-use Rattle.goal_spans.specs.script_shape.Tree.{needs_words, Names, last_name}
-use Rattle.goal_spans.specs.script_shape.Tree.{more_names, Halving, halved_by, with_goal}
-use Rattle.goal_spans.specs.script_shape.Tree.{Hint, rewrite, like, split, halving}
-use Rattle.goal_spans.specs.script_shape.Tree.{hint_words, Hints, no_hint, hint, hints_words}
-use Rattle.goal_spans.specs.script_shape.Tree.{formula_words, Script, formula, define}
-use Rattle.goal_spans.specs.script_shape.Tree.{definition_words, script_words}
-use Rattle.node_counts.specs.script_judge.declared.refusal.Refusal.{Refusal}
-use Rattle.node_counts.specs.script_judge.Reading.{IsReadable}
-use Rattle.node_counts.specs.script_judge.First.{IsFirstRefusal, unread, read}
-use Rattle.node_counts.specs.script_nodes.Known.{Known, nothing_known}
-use Rattle.node_counts.specs.script_nodes.Values.{expr_value}
-use Rattle.node_counts.specs.script_nodes.Definitions.{definition_value}
-use Rattle.node_counts.specs.script_claims.Claims.{formula_claims}
-use Rattle.node_counts.specs.script_hints.declared.hint.Hint.{Hint as Row}
-use Rattle.node_counts.specs.script_hints.Hints.{NeedsSoFar, with_need, with_need_list, needs_value}
-use Rattle.node_counts.specs.script_hints.Hints.{HintsSoFar, with_halved, with_names, with_halving}
-use Rattle.node_counts.specs.script_hints.Hints.{with_hint, with_hints, no_hints}
+use Rattle.script_words.specs.declared.class.Symbol.TheVariants as s
+use Rattle.script_words.specs.declared.lex.Token.{Token}
+use Rattle.script_words.specs.Lex.{TokensAreFew}
+use Rattle.script_words.specs.Named.{Naming, nothing, naming_after, defined_by, token_word}
+use Rattle.script_words.specs.Named.{words_from}
+use Rattle.script_words.specs.declared.class.Number.TheVariants as digits_kind
+use Rattle.script_words.specs.Words.{Word, literal, sign}
+use Rattle.script_shape.specs.Expressions.{Bound, unsigned, positive, negative, bound_words}
+use Rattle.script_shape.specs.Expressions.{operator_words, Expr, term, sum, difference, expr_words}
+use Rattle.script_shape.specs.Expressions.{Term, factor, product, quotient, term_words, Factor}
+use Rattle.script_shape.specs.Expressions.{negation, atom, factor_words, Atom, number, variable}
+use Rattle.script_shape.specs.Expressions.{parenthesized, absolute, called, rounded, fused}
+use Rattle.script_shape.specs.Expressions.{atom_words}
+use Rattle.script_shape.specs.Hints.{Need, nonzero, below, not_above, above, not_below, need_words}
+use Rattle.script_shape.specs.Hints.{NeedList, last_need, more_needs, need_list_words, Needs}
+use Rattle.script_shape.specs.Hints.{always, provided, needs_words, Names, last_name, more_names}
+use Rattle.script_shape.specs.Hints.{Halving, halved_by, with_goal, Hint, rewrite, like, split}
+use Rattle.script_shape.specs.Hints.{halving, hint_words, Hints, no_hint, hint, hints_words}
+use Rattle.script_shape.specs.Propositions.{formula_words}
+use Rattle.script_shape.specs.Tree.{Script, formula, define, definition_words, script_words}
+use Rattle.script_judge.specs.declared.refusal.Refusal.{Refusal}
+use Rattle.script_judge.specs.Reading.{IsReadable}
+use Rattle.script_judge.specs.First.{IsFirstRefusal, unread, read}
+use Rattle.script_nodes.specs.Known.{Known, nothing_known}
+use Rattle.script_nodes.specs.Values.{expr_value}
+use Rattle.script_nodes.specs.Definitions.{definition_value}
+use Rattle.script_claims.specs.Claims.{formula_claims}
+use Rattle.script_hints.specs.declared.hint.Hint.{Hint as Row}
+use Rattle.script_hints.specs.Hints.{NeedsSoFar, with_need, with_need_list, needs_value, HintsSoFar}
+use Rattle.script_hints.specs.Hints.{with_halved, with_names, with_halving, with_hint, with_hints}
+use Rattle.script_hints.specs.Hints.{no_hints}
 use Rattle.script_grammar.specs.Meaning.{meaning_from}
 use Rattle.script_grammar.specs.Spells.{View}
 use Rattle.script_grammar.specs.Few.{constraints_in, SpelledHaveFewConstraints}

@@ -2,25 +2,23 @@
 use Rattle.std.proofs.Common.{◌≡◌, ℕ, ◌<◌, ◌≤◌, List, [], ◌∷◌, length, position, Option, Some, None}
 use Rattle.std.proofs.Common.{IfSome, refl, arith, length-append, le_trans}
 use Rattle.std.proofs.lemmas.List.Quantifiers.{position-Some}
-use Rattle.node_counts.specs.fx_model.declared.Rounding.{Rounding}
-use Rattle.node_counts.specs.fx_model.declared.ExprId.{ExprId}
-use Rattle.node_counts.specs.fx_model.declared.Node.{Node}
-use Rattle.node_counts.specs.fx_model.declared.Node.TheVariants.{Neg, Add, Sub, Mul, Div, Abs}
-use Rattle.node_counts.specs.fx_model.declared.Node.TheVariants.{Round}
-use Rattle.node_counts.specs.expr_dag.Nodes.{same_node, numbered, placed}
-use Rattle.goal_spans.specs.script_shape.Tree.{Expr, term, sum, difference, Term, factor, product}
-use Rattle.goal_spans.specs.script_shape.Tree.{quotient, Factor, negation, atom, Atom, number}
-use Rattle.goal_spans.specs.script_shape.Tree.{variable, parenthesized, absolute, called, rounded}
-use Rattle.goal_spans.specs.script_shape.Tree.{fused, Definition, names_operator, names_value}
-use Rattle.node_counts.specs.script_nodes.Known.{Name, Known, PlacedNode, put, entry_of}
-use Rattle.node_counts.specs.script_nodes.Known.{variable_put, name_put, named}
-use Rattle.node_counts.specs.script_nodes.Values.{then_rounded, fused_sum, expr_value, term_value}
-use Rattle.node_counts.specs.script_nodes.Values.{factor_value, atom_value}
-use Rattle.node_counts.specs.script_nodes.Definitions.{name_text, rounding_by, definition_value}
-use Rattle.node_counts.specs.script_nodes.Growth.{node_count}
-use Rattle.node_counts.specs.script_nodes.Sound.{ValuesFit}
-use Rattle.node_counts.specs.script_nodes.Kept.{put_grows, values_fit_more, value_among}
-use Rattle.node_counts.specs.script_nodes.Kept.{value_joins}
+use Rattle.fx_model.specs.declared.Rounding.{Rounding}
+use Rattle.fx_model.specs.declared.ExprId.{ExprId}
+use Rattle.fx_model.specs.declared.Node.{Node}
+use Rattle.fx_model.specs.declared.Node.TheVariants.{Neg, Add, Sub, Mul, Div, Abs, Round}
+use Rattle.expr_dag.specs.Nodes.{same_node, numbered, placed}
+use Rattle.script_shape.specs.Expressions.{Expr, term, sum, difference, Term, factor, product}
+use Rattle.script_shape.specs.Expressions.{quotient, Factor, negation, atom, Atom, number, variable}
+use Rattle.script_shape.specs.Expressions.{parenthesized, absolute, called, rounded, fused}
+use Rattle.script_shape.specs.Tree.{Definition, names_operator, names_value}
+use Rattle.script_nodes.specs.Known.{Name, Known, PlacedNode, put, entry_of, variable_put, name_put}
+use Rattle.script_nodes.specs.Known.{named}
+use Rattle.script_nodes.specs.Values.{then_rounded, fused_sum, expr_value, term_value, factor_value}
+use Rattle.script_nodes.specs.Values.{atom_value}
+use Rattle.script_nodes.specs.Definitions.{name_text, rounding_by, definition_value}
+use Rattle.script_nodes.specs.Growth.{node_count}
+use Rattle.script_nodes.specs.Sound.{ValuesFit}
+use Rattle.script_nodes.specs.Kept.{put_grows, values_fit_more, value_among, value_joins}
 
 -- each name's value is a node
 abbrev pub Fits : Known → Type 0

@@ -6,31 +6,31 @@ use Rattle.std.specs.Prelude.{IsTrue, ◌↔◌}
 use Rattle.std.specs.Str.{IsValidUpTo, is_utf8}
 use Rattle.std.proofs.lemmas.Bool.{cases_lt}
 use Rattle.std.proofs.lemmas.Str.{IsUtf8-from_is_utf8, is_utf8-from_IsUtf8, IsUtf8-nil}
-use Rattle.node_counts.specs.fx_model.Fraction.{Fraction}
-use Rattle.node_counts.specs.fx_model.Grid.{signed}
-use Rattle.node_counts.specs.fx_model.Expression.{literal_value}
-use Rattle.node_counts.specs.literal.Spelling.{IsLiteral, IsWithin, written}
-use Rattle.node_counts.specs.literal.Normal.{IsReading, IsPastLimits}
-use Rattle.node_counts.specs.script_bounds.Texts.{IsNumber}
-use Rattle.goal_spans.specs.script_words.declared.class.Symbol.TheVariants as s
-use Rattle.goal_spans.specs.script_words.Lex.{LexesAll}
-use Rattle.goal_spans.specs.script_words.Words.{Word, name, rounding, literal, sign}
-use Rattle.goal_spans.specs.script_words.Named.{words_of}
-use Rattle.goal_spans.specs.script_shape.declared.due.Due.{Due}
-use Rattle.goal_spans.specs.script_shape.declared.due.Due.TheVariants as d
-use Rattle.goal_spans.specs.script_shape.Tree.{BeginsScript}
-use Rattle.goal_spans.specs.script_shape.Roles.{Leaf, script_leaves, HasRoles}
-use Rattle.goal_spans.specs.script_shape.ShapeLaw.{ShapesExist}
-use Rattle.node_counts.specs.script_judge.declared.refusal.RefusalKind.{RefusalKind}
-use Rattle.node_counts.specs.script_judge.declared.fault.Fault.{Fault}
-use Rattle.node_counts.specs.script_judge.Reading.{Reading, IsReadingOf, not_text, too_long}
-use Rattle.node_counts.specs.script_judge.First.{unread, read}
-use Rattle.node_counts.specs.script_judge.Bounds.{IsWordNumber, IsMagnitude, IsBoundText, IsBoundOf}
-use Rattle.node_counts.specs.script_judge.Numbers.{Notes, IsPastWord, IsPast, is_number, Tells}
-use Rattle.node_counts.specs.script_judge.Sides.{has_arrow}
-use Rattle.node_counts.specs.script_judge.Judge.{Seen, nothing_seen, seen_after, refusal_at, Judged}
-use Rattle.node_counts.specs.script_judge.Judge.{none_refused, refused, passed}
-use Rattle.node_counts.specs.script_nodes.Literals.{literal_of, LiteralsAreTold, SpelledOnce}
+use Rattle.fx_model.specs.Fraction.{Fraction}
+use Rattle.fx_model.specs.Grid.{signed}
+use Rattle.fx_model.specs.Expression.{literal_value}
+use Rattle.literal.specs.Spelling.{IsLiteral, IsWithin, written}
+use Rattle.literal.specs.Normal.{IsReading, IsPastLimits}
+use Rattle.script_words.specs.declared.class.Symbol.TheVariants as s
+use Rattle.script_words.specs.Lex.{LexesAll}
+use Rattle.script_words.specs.Words.{Word, name, rounding, literal, sign}
+use Rattle.script_words.specs.Named.{words_of}
+use Rattle.script_shape.specs.declared.due.Due.{Due}
+use Rattle.script_shape.specs.declared.due.Due.TheVariants as d
+use Rattle.script_shape.specs.Tree.{BeginsScript}
+use Rattle.script_shape.specs.Roles.{Leaf, script_leaves, HasRoles}
+use Rattle.script_shape.specs.ShapeLaw.{ShapesExist}
+use Rattle.script_bounds.specs.Texts.{IsNumber}
+use Rattle.script_judge.specs.declared.refusal.RefusalKind.{RefusalKind}
+use Rattle.script_judge.specs.declared.fault.Fault.{Fault}
+use Rattle.script_judge.specs.Reading.{Reading, IsReadingOf, not_text, too_long}
+use Rattle.script_judge.specs.First.{unread, read}
+use Rattle.script_judge.specs.Bounds.{IsWordNumber, IsMagnitude, IsBoundText, IsBoundOf}
+use Rattle.script_judge.specs.Numbers.{Notes, IsPastWord, IsPast, is_number, Tells}
+use Rattle.script_judge.specs.Sides.{has_arrow}
+use Rattle.script_judge.specs.Judge.{Seen, nothing_seen, seen_after, refusal_at, Judged}
+use Rattle.script_judge.specs.Judge.{none_refused, refused, passed}
+use Rattle.script_nodes.specs.Literals.{literal_of, LiteralsAreTold, SpelledOnce}
 use Rattle.script_grammar.specs.Spells.{FirstsExist}
 
 -- ---- bytes are text, or stop being it somewhere

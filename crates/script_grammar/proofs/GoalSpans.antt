@@ -1,12 +1,12 @@
 -- Each goal of a script has its words.
 use Rattle.std.specs.Prelude.{◌≡◌, ℕ, ◌+◌, List, [], ◌∷◌, ◌++◌, length, refl}
 use Rattle.std.proofs.Common.{sym, ap, ◌∙◌, length-append}
-use Rattle.goal_spans.specs.script_shape.Tree.{Formula, single, and, or, implies, Script}
-use Rattle.goal_spans.specs.script_shape.Tree.{formula, define, formula_words, definition_words}
-use Rattle.node_counts.specs.script_nodes.Known.{Known, nothing_known}
-use Rattle.node_counts.specs.script_nodes.Definitions.{definition_value}
-use Rattle.node_counts.specs.script_claims.Claims.{formula_claims, stated_claim}
+use Rattle.script_shape.specs.Propositions.{Formula, single, and, or, implies, formula_words}
+use Rattle.script_shape.specs.Tree.{Script, formula, define, definition_words}
 use Rattle.goal_spans.specs.Spans.{stated_at, formula_spans, script_spans}
+use Rattle.script_nodes.specs.Known.{Known, nothing_known}
+use Rattle.script_nodes.specs.Definitions.{definition_value}
+use Rattle.script_claims.specs.Claims.{formula_claims, stated_claim}
 use Rattle.script_grammar.specs.Meaning.{meaning_from}
 use Rattle.script_grammar.specs.Spells.{View, GoalsHaveSpans}
 

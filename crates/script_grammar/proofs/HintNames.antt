@@ -2,30 +2,29 @@
 use Rattle.std.specs.Prelude.{ℕ, ◌≤◌, List, [], ◌∷◌, ◌++◌, None, Bool, true, false, if◌then◌else◌}
 use Rattle.std.specs.List.{AllByRecursion, list_any}
 use Rattle.std.proofs.Common.{arith}
-use Rattle.node_counts.specs.fx_model.declared.ExprId.{ExprId}
-use Rattle.goal_spans.specs.script_shape.Tree.{AnyName, Expr, Need, nonzero, below, not_above}
-use Rattle.goal_spans.specs.script_shape.Tree.{above, not_below, NeedList, last_need, more_needs}
-use Rattle.goal_spans.specs.script_shape.Tree.{Needs, always, provided, CutForm, Names, last_name}
-use Rattle.goal_spans.specs.script_shape.Tree.{more_names, Halving, halved_by, with_goal, Hint}
-use Rattle.goal_spans.specs.script_shape.Tree.{rewrite, like, split, halving, Hints, no_hint, hint}
-use Rattle.node_counts.specs.script_nodes.Known.{Known, named}
-use Rattle.node_counts.specs.script_nodes.Values.{expr_value}
-use Rattle.node_counts.specs.script_nodes.Growth.{node_count}
-use Rattle.node_counts.specs.script_hints.declared.hint.Constraint.{Constraint}
-use Rattle.node_counts.specs.script_hints.declared.hint.Constraint.TheVariants as constraint
-use Rattle.node_counts.specs.script_hints.declared.hint.Hint.{Hint as Rewriting}
-use Rattle.node_counts.specs.script_hints.declared.hint.HintList.{HintList}
-use Rattle.node_counts.specs.script_hints.Hints.{NeedsSoFar, one_more, with_need, with_need_list}
-use Rattle.node_counts.specs.script_hints.Hints.{needs_value, same_number, with_variable}
-use Rattle.node_counts.specs.script_hints.Hints.{HintsSoFar, ordered, halved, with_halved}
-use Rattle.node_counts.specs.script_hints.Hints.{with_names, cuts_along, with_halving, with_hint}
-use Rattle.node_counts.specs.script_hints.Hints.{with_hints, no_hints}
-use Rattle.node_counts.specs.script_nodes.Definitions.{name_text}
-use Rattle.node_counts.specs.script_nodes.Written.{bound_written}
+use Rattle.fx_model.specs.declared.ExprId.{ExprId}
+use Rattle.facts.specs.CommonParts.{all_as}
+use Rattle.script_shape.specs.Expressions.{AnyName, Expr}
+use Rattle.script_shape.specs.Hints.{Need, nonzero, below, not_above, above, not_below, NeedList}
+use Rattle.script_shape.specs.Hints.{last_need, more_needs, Needs, always, provided, CutForm, Names}
+use Rattle.script_shape.specs.Hints.{last_name, more_names, Halving, halved_by, with_goal, Hint}
+use Rattle.script_shape.specs.Hints.{rewrite, like, split, halving, Hints, no_hint, hint}
+use Rattle.script_cases.specs.Lists.{all_joined}
+use Rattle.script_nodes.specs.Known.{Known, named}
+use Rattle.script_nodes.specs.Values.{expr_value}
+use Rattle.script_nodes.specs.Growth.{node_count}
+use Rattle.script_nodes.specs.Definitions.{name_text}
+use Rattle.script_nodes.specs.Written.{bound_written}
+use Rattle.script_hints.specs.declared.hint.Constraint.{Constraint}
+use Rattle.script_hints.specs.declared.hint.Constraint.TheVariants as constraint
+use Rattle.script_hints.specs.declared.hint.Hint.{Hint as Rewriting}
+use Rattle.script_hints.specs.declared.hint.HintList.{HintList}
+use Rattle.script_hints.specs.Hints.{NeedsSoFar, one_more, with_need, with_need_list, needs_value}
+use Rattle.script_hints.specs.Hints.{same_number, with_variable, HintsSoFar, ordered, halved}
+use Rattle.script_hints.specs.Hints.{with_halved, with_names, cuts_along, with_halving, with_hint}
+use Rattle.script_hints.specs.Hints.{with_hints, no_hints}
 use Rattle.script_grammar.specs.Names.{IsNode, AreNodes, ConstraintIsOf, HintIsOf, HintsAreOf}
-use Rattle.node_counts.specs.script_cases.Lists.{all_joined}
 use Rattle.script_grammar.proofs.ExpressionNames.{Fits, Grows, grows_both, named_sits, expr_sits}
-use Rattle.node_counts.specs.facts.CommonParts.{all_as}
 
 -- ---- among more nodes
 

@@ -12,26 +12,25 @@ use Rattle.std.specs.Str.Parse.{AllDigits, IsNumeral}
 use Rattle.std.proofs.lemmas.Bool.{ltb-true, leb-true, le-ltb, lt-ltb}
 use Rattle.std.proofs.lemmas.Str.{digit_value_digit}
 use Rattle.std.proofs.Math.Seq.{take-add}
-use Rattle.node_counts.specs.literal.declared.scan.Form.{Form}
-use Rattle.node_counts.specs.literal.declared.scan.Form.TheVariants.{Decimal, Binary, Hexadecimal}
-use Rattle.node_counts.specs.literal.declared.scan.Mark.TheVariants.{Unmarked, Plus, Minus}
-use Rattle.node_counts.specs.literal.Spelling.{Exponent, exponent_bytes, letter, point_bytes}
-use Rattle.node_counts.specs.literal.Spelling.{scale_bytes, IsLiteral}
-use Rattle.goal_spans.specs.script_words.declared.class.Symbol.{Symbol}
-use Rattle.goal_spans.specs.script_words.declared.lex.Run.{Run}
-use Rattle.goal_spans.specs.script_words.declared.lex.Run.TheVariants as run
-use Rattle.goal_spans.specs.script_words.declared.lex.Token.{Token}
-use Rattle.goal_spans.specs.script_words.declared.lex.TokenKind.{TokenKind}
-use Rattle.goal_spans.specs.script_words.declared.lex.TokenKind.TheVariants as kind
-use Rattle.goal_spans.specs.script_words.Literals.{is_in, run_len, part_len, signed_len}
-use Rattle.goal_spans.specs.script_words.Literals.{exponent_len, scaled_len, is_hex, literal_len}
-use Rattle.goal_spans.specs.script_words.Signs.{sign_at, reserved_word}
-use Rattle.goal_spans.specs.script_words.Lex.{blank_len, word_kind, sign_token, front, Lexes, ends}
-use Rattle.goal_spans.specs.script_words.Lex.{bad, token}
-use Rattle.goal_spans.specs.script_words.Words.{Word, name, rounding, literal}
-use Rattle.goal_spans.specs.script_words.Named.{Naming, naming_after, defined_by, spelled_of}
-use Rattle.goal_spans.specs.script_words.Named.{kind_word, token_word, words_from}
-use Rattle.goal_spans.specs.script_words.Fronts.{len_in}
+use Rattle.literal.specs.declared.scan.Form.{Form}
+use Rattle.literal.specs.declared.scan.Form.TheVariants.{Decimal, Binary, Hexadecimal}
+use Rattle.literal.specs.declared.scan.Mark.TheVariants.{Unmarked, Plus, Minus}
+use Rattle.literal.specs.Spelling.{Exponent, exponent_bytes, letter, point_bytes, scale_bytes}
+use Rattle.literal.specs.Spelling.{IsLiteral}
+use Rattle.script_words.specs.declared.class.Symbol.{Symbol}
+use Rattle.script_words.specs.declared.lex.Run.{Run}
+use Rattle.script_words.specs.declared.lex.Run.TheVariants as run
+use Rattle.script_words.specs.declared.lex.Token.{Token}
+use Rattle.script_words.specs.declared.lex.TokenKind.{TokenKind}
+use Rattle.script_words.specs.declared.lex.TokenKind.TheVariants as kind
+use Rattle.script_words.specs.Literals.{is_in, run_len, part_len, signed_len, exponent_len}
+use Rattle.script_words.specs.Literals.{scaled_len, is_hex, literal_len}
+use Rattle.script_words.specs.Signs.{sign_at, reserved_word}
+use Rattle.script_words.specs.Lex.{blank_len, word_kind, sign_token, front, Lexes, ends, bad, token}
+use Rattle.script_words.specs.Words.{Word, name, rounding, literal}
+use Rattle.script_words.specs.Named.{Naming, naming_after, defined_by, spelled_of, kind_word}
+use Rattle.script_words.specs.Named.{token_word, words_from}
+use Rattle.script_words.specs.Fronts.{len_in}
 
 -- ---- digits
 

@@ -2,23 +2,21 @@
 use Rattle.std.specs.Prelude.{◌≡◌, ℕ, List, [], length, take, Option, Some, None, Bool, true, false}
 use Rattle.std.specs.Prelude.{if◌then◌else◌, refl}
 use Rattle.std.proofs.Common.{sym, ap, ◌∙◌, subst, append-nil}
-use Rattle.goal_spans.specs.script_words.Lex.{LexesOnce}
-use Rattle.goal_spans.specs.script_words.Named.{words_of}
-use Rattle.goal_spans.specs.script_shape.Tree.{Script, script_words}
-use Rattle.goal_spans.specs.script_shape.Roles.{script_leaves, HasRoles, LeavesAreOfTrees}
-use Rattle.node_counts.specs.script_judge.declared.refusal.Refusal.{Refusal}
-use Rattle.node_counts.specs.script_judge.Reading as reading
-use Rattle.node_counts.specs.script_judge.Reading.{IsFaultOf}
-use Rattle.node_counts.specs.script_judge.Reading.{IsScriptText, fault}
-use Rattle.node_counts.specs.script_judge.First.{IsFirstRefusal, unread, read, first_of, refusal_of}
-use Rattle.node_counts.specs.script_judge.First.{FirstsAreUnique}
-use Rattle.node_counts.specs.script_cases.Parts.{nothing}
+use Rattle.script_words.specs.Lex.{LexesOnce}
+use Rattle.script_words.specs.Named.{words_of}
+use Rattle.script_shape.specs.Tree.{Script, script_words}
+use Rattle.script_shape.specs.Roles.{script_leaves, HasRoles, LeavesAreOfTrees}
+use Rattle.script_cases.specs.Parts.{nothing}
 use Rattle.goal_spans.specs.Spans.{goal_spans}
 use Rattle.goal_spans.specs.Reading.{spans_read, ReadsSpans}
+use Rattle.script_judge.specs.declared.refusal.Refusal.{Refusal}
+use Rattle.script_judge.specs.Reading as reading
+use Rattle.script_judge.specs.Reading.{IsFaultOf, IsScriptText, fault}
+use Rattle.script_judge.specs.First.{IsFirstRefusal, unread, read, first_of, refusal_of}
+use Rattle.script_judge.specs.First.{FirstsAreUnique}
 use Rattle.script_grammar.specs.Meaning.{Meaning, meaning_of}
 use Rattle.script_grammar.specs.Steps as steps
-use Rattle.script_grammar.specs.Steps.{Step, defining, claiming, hinting, read_leaves}
-use Rattle.script_grammar.specs.Steps.{ReadsScripts}
+use Rattle.script_grammar.specs.Steps.{Step, defining, claiming, hinting, read_leaves, ReadsScripts}
 use Rattle.script_grammar.specs.Spells.{view_of, SpellsOnce, NeverBoth, SpellsAll}
 
 -- what was read, behind all words

@@ -1,13 +1,13 @@
 -- What a script names are its nodes.
 use Rattle.std.specs.List.{AllByRecursion}
 use Rattle.std.proofs.Common.{sym, subst}
-use Rattle.goal_spans.specs.script_shape.Tree.{Script, formula, define}
-use Rattle.node_counts.specs.script_nodes.Known.{Known, nothing_known}
-use Rattle.node_counts.specs.script_nodes.Definitions.{definition_value}
-use Rattle.node_counts.specs.script_nodes.Growth.{node_count}
-use Rattle.node_counts.specs.script_claims.Claims.{formula_claims}
-use Rattle.node_counts.specs.script_hints.Hints.{no_hints, with_hints}
+use Rattle.script_shape.specs.Tree.{Script, formula, define}
 use Rattle.goal_spans.specs.Spans.{goal_spans}
+use Rattle.script_nodes.specs.Known.{Known, nothing_known}
+use Rattle.script_nodes.specs.Definitions.{definition_value}
+use Rattle.script_nodes.specs.Growth.{node_count}
+use Rattle.script_claims.specs.Claims.{formula_claims}
+use Rattle.script_hints.specs.Hints.{no_hints, with_hints}
 use Rattle.script_grammar.specs.Meaning.{Meaning, meaning_from, meaning_of}
 use Rattle.script_grammar.specs.Spells.{view_of}
 use Rattle.script_grammar.specs.Names.{ClaimIsOf, HintsAreOf, NamesNodes, SpelledNamesNodes}

@@ -1,29 +1,28 @@
 -- A script that a text spells has few nodes, few hints and few goals, and its splits have ranges.
-use Rattle.std.specs.Prelude.{◌≡◌, ℕ, ◌≤◌, List, length, Option, None}
-use Rattle.std.specs.Prelude.{refl}
+use Rattle.std.specs.Prelude.{◌≡◌, ℕ, ◌≤◌, List, length, Option, None, refl}
 use Rattle.std.proofs.Common.{◌<◌, sym, ap, ◌∙◌, subst, arith}
-use Rattle.goal_spans.specs.script_words.Lex.{LexesOnce}
-use Rattle.goal_spans.specs.script_words.Named.{words_of}
-use Rattle.goal_spans.specs.script_shape.Tree.{Script, script_words, formula, define}
-use Rattle.goal_spans.specs.script_shape.Roles.{Leaf, script_leaves, LeavesAreOfTrees}
-use Rattle.node_counts.specs.script_judge.declared.refusal.Refusal.{Refusal}
-use Rattle.node_counts.specs.script_judge.Reading.{Reading, IsReadingOf, fault}
-use Rattle.node_counts.specs.script_judge.First.{IsFirstRefusal, unread, read, refusal_of}
-use Rattle.node_counts.specs.script_judge.First.{second_none, none_found}
-use Rattle.node_counts.specs.script_judge.Judge.{Judged, nothing_seen}
-use Rattle.node_counts.specs.script_nodes.Known.{Known, nothing_known}
-use Rattle.node_counts.specs.script_nodes.Definitions.{definition_value}
+use Rattle.script_words.specs.Lex.{LexesOnce}
+use Rattle.script_words.specs.Named.{words_of}
+use Rattle.script_shape.specs.Tree.{Script, script_words, formula, define}
+use Rattle.script_shape.specs.Roles.{Leaf, script_leaves, LeavesAreOfTrees}
+use Rattle.script_cases.specs.Cases.{all_items}
+use Rattle.goal_spans.specs.Reading.{spans_read}
+use Rattle.script_judge.specs.declared.refusal.Refusal.{Refusal}
+use Rattle.script_judge.specs.Reading.{Reading, IsReadingOf, fault}
+use Rattle.script_judge.specs.First.{IsFirstRefusal, unread, read, refusal_of, second_none}
+use Rattle.script_judge.specs.First.{none_found}
+use Rattle.script_judge.specs.Judge.{Judged, nothing_seen}
+use Rattle.script_nodes.specs.Known.{Known, nothing_known}
+use Rattle.script_nodes.specs.Definitions.{definition_value}
+use Rattle.script_claims.specs.declared.claim.Claim.{Claim}
+use Rattle.script_claims.specs.Claims.{PartsHaveHypotheses}
 use Rattle.node_counts.specs.Counted.{known_behind, NodesAreCounted}
 use Rattle.node_counts.specs.Few.{HasFewHints, hints_behind, HintsAreFew, goals_behind, GoalsAreFew}
 use Rattle.node_counts.specs.Ranges.{HaveFewCases, parts_behind, SplitsHaveRanges}
-use Rattle.goal_spans.specs.Reading.{spans_read}
 use Rattle.script_grammar.specs.Meaning.{Meaning, meaning_from}
 use Rattle.script_grammar.specs.Steps.{start, nodes_at, read_leaves}
 use Rattle.script_grammar.specs.Spells.{View, view_of, Spells, SpelledAreShort}
 use Rattle.script_grammar.specs.Few.{SpelledHaveFewHints, SpelledHaveFewGoals}
-use Rattle.node_counts.specs.script_cases.Cases.{all_items}
-use Rattle.node_counts.specs.script_claims.declared.claim.Claim.{Claim}
-use Rattle.node_counts.specs.script_claims.Claims.{PartsHaveHypotheses}
 use Rattle.script_grammar.specs.Ranges.{SpelledHaveRanges, SpelledHaveFewCases}
 use Rattle.script_grammar.proofs.Accepted.{reading_leaves, IsAccepted}
 

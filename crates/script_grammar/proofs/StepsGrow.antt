@@ -1,14 +1,13 @@
 -- Nodes never go while the words of a script are read.
 use Rattle.std.proofs.Common.{◌≡◌, ℕ, ◌<◌, ◌≤◌, List, [], ◌∷◌, length, get_or, Bool, true, false}
-use Rattle.std.proofs.Common.{if◌then◌else◌, ap, ◌∙◌, arith, le_refl}
-use Rattle.std.proofs.Common.{le_trans}
-use Rattle.goal_spans.specs.script_words.Words.{Word}
-use Rattle.goal_spans.specs.script_shape.declared.due.Due.{Due}
-use Rattle.goal_spans.specs.script_shape.Roles.{Leaf, leaves_of}
-use Rattle.node_counts.specs.script_nodes.Defining.{opens_formula}
-use Rattle.node_counts.specs.script_nodes.Growth.{DefiningGrows}
-use Rattle.node_counts.specs.script_claims.Reads.{State, read_claim, ClaimsGrow}
-use Rattle.node_counts.specs.script_hints.ReadingLaw.{HintsGrow}
+use Rattle.std.proofs.Common.{if◌then◌else◌, ap, ◌∙◌, arith, le_refl, le_trans}
+use Rattle.script_words.specs.Words.{Word}
+use Rattle.script_shape.specs.declared.due.Due.{Due}
+use Rattle.script_shape.specs.Roles.{Leaf, leaves_of}
+use Rattle.script_nodes.specs.Defining.{opens_formula}
+use Rattle.script_nodes.specs.Growth.{DefiningGrows}
+use Rattle.script_claims.specs.Reads.{State, read_claim, ClaimsGrow}
+use Rattle.script_hints.specs.ReadingLaw.{HintsGrow}
 use Rattle.script_grammar.specs.Steps.{Step, defining, claiming, hinting, closes_formula}
 use Rattle.script_grammar.specs.Steps.{hints_begun, read_word, read_leaves, nodes_at}
 

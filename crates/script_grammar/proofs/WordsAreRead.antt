@@ -7,30 +7,29 @@ use Rattle.std.specs.Prelude.{IsTrue}
 use Rattle.std.specs.List.{AllByRecursion}
 use Rattle.std.specs.Str.Parse.{digits_value}
 use Rattle.std.proofs.lemmas.Bool.{ltb-false, lt-ltb, le-ltb, cases_lt}
-use Rattle.node_counts.specs.literal.Spelling.{IsLiteral}
-use Rattle.node_counts.specs.literal.Normal.{IsReading, IsPastLimits}
-use Rattle.goal_spans.specs.script_words.Lex.{LexesOnce}
-use Rattle.goal_spans.specs.script_words.Words.{Word, literal}
-use Rattle.goal_spans.specs.script_words.Named.{nothing, words_of}
-use Rattle.goal_spans.specs.script_shape.declared.due.Due.{Due}
-use Rattle.goal_spans.specs.script_shape.declared.due.Due.TheVariants as d
-use Rattle.goal_spans.specs.script_shape.Roles.{Leaf, script_leaves, LeavesAreOfTrees, LeavesSpell}
-use Rattle.node_counts.specs.script_judge.declared.refusal.RefusalKind.{RefusalKind}
-use Rattle.node_counts.specs.script_judge.declared.fault.Fault.{Fault}
-use Rattle.node_counts.specs.script_judge.Names.{is_used, defines, is_some_among, split_name}
-use Rattle.node_counts.specs.script_judge.Bounds.{is_bad_bound}
-use Rattle.node_counts.specs.script_cases.Parts.{begun_cases}
-use Rattle.node_counts.specs.script_judge.Splits.{is_rangeless, is_bad_point}
-use Rattle.node_counts.specs.script_judge.Numbers.{Notes, Tells, has_no_pieces, is_past_lsb}
-use Rattle.node_counts.specs.script_judge.Numbers.{is_past_pieces}
-use Rattle.node_counts.specs.script_judge.declared.counts.Counts.{Counts}
-use Rattle.node_counts.specs.script_judge.Judge.{Seen, is_on_wrong_side, is_past_cases, or_else}
-use Rattle.node_counts.specs.script_judge.Judge.{form_kind, form_refusal, limit_kind, limit_refusal}
-use Rattle.node_counts.specs.script_judge.Judge.{seen_after, refusal_at, Judged, refused, passed}
-use Rattle.node_counts.specs.script_judge.Judge.{has_arrow}
-use Rattle.node_counts.specs.script_nodes.Literals.{literal_of, LiteralsAreTold}
-use Rattle.node_counts.specs.script_nodes.Operators.{number_of}
-use Rattle.node_counts.specs.script_claims.Claims.{exponent_size}
+use Rattle.literal.specs.Spelling.{IsLiteral}
+use Rattle.literal.specs.Normal.{IsReading, IsPastLimits}
+use Rattle.script_words.specs.Lex.{LexesOnce}
+use Rattle.script_words.specs.Words.{Word, literal}
+use Rattle.script_words.specs.Named.{nothing, words_of}
+use Rattle.script_shape.specs.declared.due.Due.{Due}
+use Rattle.script_shape.specs.declared.due.Due.TheVariants as d
+use Rattle.script_shape.specs.Roles.{Leaf, script_leaves, LeavesAreOfTrees, LeavesSpell}
+use Rattle.script_cases.specs.Parts.{begun_cases}
+use Rattle.script_judge.specs.declared.refusal.RefusalKind.{RefusalKind}
+use Rattle.script_judge.specs.declared.fault.Fault.{Fault}
+use Rattle.script_judge.specs.Names.{is_used, defines, is_some_among, split_name}
+use Rattle.script_judge.specs.Bounds.{is_bad_bound}
+use Rattle.script_judge.specs.Splits.{is_rangeless, is_bad_point}
+use Rattle.script_judge.specs.Numbers.{Notes, Tells, has_no_pieces, is_past_lsb, is_past_pieces}
+use Rattle.script_judge.specs.declared.counts.Counts.{Counts}
+use Rattle.script_judge.specs.Judge.{Seen, is_on_wrong_side, is_past_cases, or_else, form_kind}
+use Rattle.script_judge.specs.Judge.{form_refusal, limit_kind, limit_refusal, seen_after}
+use Rattle.script_judge.specs.Judge.{refusal_at, Judged, refused, passed}
+use Rattle.script_judge.specs.Sides.{has_arrow}
+use Rattle.script_nodes.specs.Literals.{literal_of, LiteralsAreTold}
+use Rattle.script_nodes.specs.Operators.{number_of}
+use Rattle.script_claims.specs.Claims.{exponent_size}
 use Rattle.script_grammar.specs.Read.{AreDigits, IsRead, SpelledAreRead}
 use Rattle.script_grammar.proofs.Short.{spelled_judged}
 use Rattle.script_grammar.proofs.LiteralWords.{IsSpelled, words_spelled}

@@ -1,36 +1,35 @@
 -- The words of a script are read as its tree.
 use Rattle.std.specs.Prelude.{◌≡◌, List, [], ◌∷◌, ◌++◌, false, refl}
 use Rattle.std.proofs.Common.{ap, sym, ◌∙◌, append-nil}
-use Rattle.goal_spans.specs.script_words.declared.class.Symbol.TheVariants as s
-use Rattle.goal_spans.specs.script_words.declared.class.Spelled.TheVariants as spelled
-use Rattle.goal_spans.specs.script_words.Words.{Word, sign}
-use Rattle.goal_spans.specs.script_shape.declared.due.Due.{Due}
-use Rattle.goal_spans.specs.script_shape.declared.due.Due.TheVariants as d
-use Rattle.goal_spans.specs.script_shape.Tree.{AnyName, plain, operator, Whole, Bound, Operator}
-use Rattle.goal_spans.specs.script_shape.Tree.{Expr, Range, asked, between as range_between, Prop}
-use Rattle.goal_spans.specs.script_shape.Tree.{lies_in, relative_in, at_most, at_least, multiple}
-use Rattle.goal_spans.specs.script_shape.Tree.{Stated, affirmed, denied, Formula, single, and, or}
-use Rattle.goal_spans.specs.script_shape.Tree.{implies, How, exactly, rounded_by, rounded_apart}
-use Rattle.goal_spans.specs.script_shape.Tree.{rounded_joined, Definition, names_operator}
-use Rattle.goal_spans.specs.script_shape.Tree.{names_value, Hints, Script, formula, define}
-use Rattle.goal_spans.specs.script_shape.Roles.{Leaf, at, name_leaves, special_leaves, whole_leaves}
-use Rattle.goal_spans.specs.script_shape.Roles.{bound_leaves, operator_leaves, expr_leaves}
-use Rattle.goal_spans.specs.script_shape.Roles.{range_leaves, prop_leaves, stated_leaves}
-use Rattle.goal_spans.specs.script_shape.Roles.{formula_leaves, hints_leaves, how_leaves}
-use Rattle.goal_spans.specs.script_shape.Roles.{definition_leaves, script_leaves}
-use Rattle.goal_spans.specs.script_shape.Inner.{EachRole, each_of_both, each_as, IsInner}
-use Rattle.goal_spans.specs.script_shape.Inner.{name_roles, special_roles, bound_roles, whole_inner}
-use Rattle.goal_spans.specs.script_shape.Inner.{operator_roles, expr_inner}
-use Rattle.node_counts.specs.script_nodes.Known.{Known, nothing_known}
-use Rattle.node_counts.specs.script_nodes.Definitions.{definition_value}
-use Rattle.node_counts.specs.script_nodes.Defining.{Defining, between, define_word, define_all}
-use Rattle.node_counts.specs.script_nodes.Defining.{opens_formula, ReadsDefinition}
-use Rattle.node_counts.specs.script_claims.Claims.{Sides, no_claims, formula_claims}
-use Rattle.node_counts.specs.script_claims.Reads.{State, from_claims, read_claim, read_claims}
-use Rattle.node_counts.specs.script_claims.Reads.{ReadsFormulas}
-use Rattle.node_counts.specs.script_hints.Hints.{no_hints}
-use Rattle.node_counts.specs.script_hints.Reading.{HintReading, hints_from, read_hint, read_hints}
-use Rattle.node_counts.specs.script_hints.ReadingLaw.{ReadsHints}
+use Rattle.script_words.specs.declared.class.Symbol.TheVariants as s
+use Rattle.script_words.specs.declared.class.Spelled.TheVariants as spelled
+use Rattle.script_words.specs.Words.{Word, sign}
+use Rattle.script_shape.specs.declared.due.Due.{Due}
+use Rattle.script_shape.specs.declared.due.Due.TheVariants as d
+use Rattle.script_shape.specs.Expressions.{AnyName, plain, operator, Whole, Bound, Operator, Expr}
+use Rattle.script_shape.specs.Propositions.{Range, asked, between as range_between, Prop, lies_in}
+use Rattle.script_shape.specs.Propositions.{relative_in, at_most, at_least, multiple, Stated}
+use Rattle.script_shape.specs.Propositions.{affirmed, denied, Formula, single, and, or, implies}
+use Rattle.script_shape.specs.Tree.{How, exactly, rounded_by, rounded_apart, rounded_joined}
+use Rattle.script_shape.specs.Tree.{Definition, names_operator, names_value, Script, formula}
+use Rattle.script_shape.specs.Tree.{define}
+use Rattle.script_shape.specs.Hints.{Hints}
+use Rattle.script_shape.specs.Roles.{Leaf, at, name_leaves, special_leaves, whole_leaves}
+use Rattle.script_shape.specs.Roles.{bound_leaves, operator_leaves, expr_leaves, range_leaves}
+use Rattle.script_shape.specs.Roles.{prop_leaves, stated_leaves, formula_leaves, hints_leaves}
+use Rattle.script_shape.specs.Roles.{how_leaves, definition_leaves, script_leaves}
+use Rattle.script_shape.specs.Inner.{EachRole, each_of_both, each_as, IsInner, name_roles}
+use Rattle.script_shape.specs.Inner.{special_roles, bound_roles, whole_inner, operator_roles}
+use Rattle.script_shape.specs.Inner.{expr_inner}
+use Rattle.script_nodes.specs.Known.{Known, nothing_known}
+use Rattle.script_nodes.specs.Definitions.{definition_value}
+use Rattle.script_nodes.specs.Defining.{Defining, between, define_word, define_all, opens_formula}
+use Rattle.script_nodes.specs.Defining.{ReadsDefinition}
+use Rattle.script_claims.specs.Claims.{Sides, no_claims, formula_claims}
+use Rattle.script_claims.specs.Reads.{State, from_claims, read_claim, read_claims, ReadsFormulas}
+use Rattle.script_hints.specs.Hints.{no_hints}
+use Rattle.script_hints.specs.Reading.{HintReading, hints_from, read_hint, read_hints}
+use Rattle.script_hints.specs.ReadingLaw.{ReadsHints}
 use Rattle.script_grammar.specs.Meaning.{meaning_from, body_meaning}
 use Rattle.script_grammar.specs.Steps.{defining, claiming, hinting, hints_begun, read_word}
 use Rattle.script_grammar.specs.Steps.{read_leaves, all_read, ReadsScripts}

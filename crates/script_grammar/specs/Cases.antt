@@ -1,7 +1,7 @@
 -- The cases of a script: which claims are hypotheses together.
 use Rattle.std.specs.Prelude.{List}
-use Rattle.node_counts.specs.script_cases.Cases.{cases}
-use Rattle.node_counts.specs.script_claims.declared.claim.Claim.{Claim}
+use Rattle.script_cases.specs.Cases.{cases}
+use Rattle.script_claims.specs.declared.claim.Claim.{Claim}
 use Rattle.script_grammar.specs.Spells.{View}
 
 -- The cases, in order, each the claims that it takes as hypotheses. A script without disjunctions

@@ -1,14 +1,15 @@
 -- What a script says, by recursion on its tree: definitions first, then the formula, then the
 -- hints.
 use Rattle.std.specs.Prelude.{List}
-use Rattle.node_counts.specs.script_cases.Parts.{Parts}
-use Rattle.goal_spans.specs.script_shape.Tree.{Hints, Script, formula, define}
-use Rattle.node_counts.specs.script_nodes.Known.{Known, nothing_known}
-use Rattle.node_counts.specs.script_nodes.Definitions.{definition_value}
-use Rattle.node_counts.specs.script_claims.declared.claim.Claim.{Claim}
-use Rattle.node_counts.specs.script_claims.Claims.{Claims, formula_claims}
-use Rattle.node_counts.specs.script_hints.declared.hint.HintList.{HintList}
-use Rattle.node_counts.specs.script_hints.Hints.{HintsSoFar, no_hints, with_hints}
+use Rattle.script_shape.specs.Hints.{Hints}
+use Rattle.script_shape.specs.Tree.{Script, formula, define}
+use Rattle.script_cases.specs.Parts.{Parts}
+use Rattle.script_nodes.specs.Known.{Known, nothing_known}
+use Rattle.script_nodes.specs.Definitions.{definition_value}
+use Rattle.script_claims.specs.declared.claim.Claim.{Claim}
+use Rattle.script_claims.specs.Claims.{Claims, formula_claims}
+use Rattle.script_hints.specs.declared.hint.HintList.{HintList}
+use Rattle.script_hints.specs.Hints.{HintsSoFar, no_hints, with_hints}
 
 -- The nodes of all expressions and the names of variables, what the formula claims, all of that by
 -- parts and conjunctions too, and what the hints say.

@@ -1,16 +1,15 @@
 -- The expressions that a script names are among its nodes.
 use Rattle.std.specs.Prelude.{ℕ, ◌<◌, List, length}
 use Rattle.std.specs.List.{AllByRecursion}
-use Rattle.node_counts.specs.fx_model.declared.ExprId.{ExprId}
-use Rattle.node_counts.specs.script_claims.declared.claim.Claim.{Claim}
-use Rattle.node_counts.specs.script_claims.declared.claim.Claim.TheVariants.{Bounded, Asked}
-use Rattle.node_counts.specs.script_claims.declared.claim.Claim.TheVariants.{Relative}
-use Rattle.node_counts.specs.script_claims.declared.claim.Claim.TheVariants.{RelativeAsked, Above}
-use Rattle.node_counts.specs.script_claims.declared.claim.Claim.TheVariants.{Below, Multiple}
-use Rattle.node_counts.specs.script_hints.declared.hint.Constraint.{Constraint}
-use Rattle.node_counts.specs.script_hints.declared.hint.Constraint.TheVariants as need
-use Rattle.node_counts.specs.script_hints.declared.hint.Hint.{Hint}
-use Rattle.node_counts.specs.script_hints.declared.hint.HintList.{HintList}
+use Rattle.fx_model.specs.declared.ExprId.{ExprId}
+use Rattle.script_claims.specs.declared.claim.Claim.{Claim}
+use Rattle.script_claims.specs.declared.claim.Claim.TheVariants.{Bounded, Asked, Relative}
+use Rattle.script_claims.specs.declared.claim.Claim.TheVariants.{RelativeAsked, Above, Below}
+use Rattle.script_claims.specs.declared.claim.Claim.TheVariants.{Multiple}
+use Rattle.script_hints.specs.declared.hint.Constraint.{Constraint}
+use Rattle.script_hints.specs.declared.hint.Constraint.TheVariants as need
+use Rattle.script_hints.specs.declared.hint.Hint.{Hint}
+use Rattle.script_hints.specs.declared.hint.HintList.{HintList}
 use Rattle.script_grammar.specs.Spells.{View, Spells}
 
 -- the number of one of n nodes

@@ -1,7 +1,7 @@
 -- The cases of a script's hypotheses, and the ranges of the variables that it splits.
 use Rattle.std.specs.Prelude.{◌≡◌, ℕ, ◌≤◌, List, length}
 use Rattle.std.specs.List.{AllByRecursion}
-use Rattle.node_counts.specs.script_cases.Cases.{cases, all_items}
+use Rattle.script_cases.specs.Cases.{cases, all_items}
 use Rattle.node_counts.specs.Ranges.{HaveRanges}
 use Rattle.script_grammar.specs.Spells.{View, Spells}
 

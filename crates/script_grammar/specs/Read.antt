@@ -2,14 +2,14 @@
 use Rattle.std.specs.Prelude.{◌≡◌, ⊤, ℕ, List}
 use Rattle.std.specs.List.{AllByRecursion}
 use Rattle.std.specs.Str.Parse.{digits_value}
-use Rattle.node_counts.specs.literal.Normal.{IsReading}
-use Rattle.goal_spans.specs.script_words.Words.{Word, literal}
-use Rattle.goal_spans.specs.script_shape.declared.due.Due.{Due}
-use Rattle.goal_spans.specs.script_shape.declared.due.Due.TheVariants as d
-use Rattle.goal_spans.specs.script_shape.Roles.{script_leaves}
-use Rattle.node_counts.specs.script_nodes.Literals.{literal_of}
-use Rattle.node_counts.specs.script_nodes.Operators.{number_of}
-use Rattle.node_counts.specs.script_claims.Claims.{exponent_size}
+use Rattle.literal.specs.Normal.{IsReading}
+use Rattle.script_words.specs.Words.{Word, literal}
+use Rattle.script_shape.specs.declared.due.Due.{Due}
+use Rattle.script_shape.specs.declared.due.Due.TheVariants as d
+use Rattle.script_shape.specs.Roles.{script_leaves}
+use Rattle.script_nodes.specs.Literals.{literal_of}
+use Rattle.script_nodes.specs.Operators.{number_of}
+use Rattle.script_claims.specs.Claims.{exponent_size}
 use Rattle.script_grammar.specs.Spells.{View, Spells}
 
 -- digits alone are read as the number that they write, as the place of an operator and as the

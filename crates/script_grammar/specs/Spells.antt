@@ -1,18 +1,18 @@
 -- What a text spells: a script, or a refusal.
 use Rattle.std.specs.Prelude.{◌≡◌, ℕ, ◌≤◌, List, length, Option, None, Some}
-use Rattle.node_counts.specs.fx_model.declared.Node.{Node}
-use Rattle.goal_spans.specs.script_words.declared.lex.Token.{Token}
-use Rattle.goal_spans.specs.script_words.Lex.{Lexes}
-use Rattle.goal_spans.specs.script_words.Named.{words_of}
-use Rattle.goal_spans.specs.script_shape.Tree.{Script, script_words}
-use Rattle.node_counts.specs.script_judge.declared.refusal.Refusal.{Refusal}
-use Rattle.node_counts.specs.script_judge.First.{IsFirstRefusal}
-use Rattle.node_counts.specs.script_nodes.Known.{Name, Known}
-use Rattle.node_counts.specs.script_claims.declared.claim.Claim.{Claim}
-use Rattle.node_counts.specs.script_claims.Claims.{Sides}
-use Rattle.node_counts.specs.script_hints.declared.hint.HintList.{HintList}
+use Rattle.fx_model.specs.declared.Node.{Node}
+use Rattle.script_words.specs.declared.lex.Token.{Token}
+use Rattle.script_words.specs.Lex.{Lexes}
+use Rattle.script_words.specs.Named.{words_of}
+use Rattle.script_shape.specs.Tree.{Script, script_words}
 use Rattle.goal_spans.specs.declared.span.Span.{Span}
 use Rattle.goal_spans.specs.Spans.{goal_spans}
+use Rattle.script_judge.specs.declared.refusal.Refusal.{Refusal}
+use Rattle.script_judge.specs.First.{IsFirstRefusal}
+use Rattle.script_nodes.specs.Known.{Name, Known}
+use Rattle.script_claims.specs.declared.claim.Claim.{Claim}
+use Rattle.script_claims.specs.Claims.{Sides}
+use Rattle.script_hints.specs.declared.hint.HintList.{HintList}
 use Rattle.script_grammar.specs.Meaning.{Meaning, meaning_of}
 
 -- A script as it is read: its text, its tokens, the nodes of its expressions, the names of its

@@ -1,18 +1,18 @@
 -- What a script says, word by word from the left.
 use Rattle.std.specs.Prelude.{◌≡◌, List, [], ◌∷◌, Bool, true, false, if◌then◌else◌}
-use Rattle.node_counts.specs.fx_model.declared.Node.{Node}
-use Rattle.goal_spans.specs.script_words.Words.{Word}
-use Rattle.goal_spans.specs.script_shape.declared.due.Due.{Due}
-use Rattle.goal_spans.specs.script_shape.declared.due.Due.TheVariants as d
-use Rattle.goal_spans.specs.script_shape.Tree.{Script}
-use Rattle.goal_spans.specs.script_shape.Roles.{Leaf, script_leaves}
-use Rattle.node_counts.specs.script_nodes.Known.{nothing_known}
-use Rattle.node_counts.specs.script_nodes.Defining.{Defining, between, define_word, opens_formula}
-use Rattle.node_counts.specs.script_claims.Claims.{Sides, no_sides}
-use Rattle.node_counts.specs.script_claims.Reads.{State, state_of, read_claim}
-use Rattle.node_counts.specs.script_hints.Hints.{no_hints}
-use Rattle.node_counts.specs.script_hints.Drafts.{fresh}
-use Rattle.node_counts.specs.script_hints.Reading.{HintReading, hints_from, read_hint}
+use Rattle.fx_model.specs.declared.Node.{Node}
+use Rattle.script_words.specs.Words.{Word}
+use Rattle.script_shape.specs.declared.due.Due.{Due}
+use Rattle.script_shape.specs.declared.due.Due.TheVariants as d
+use Rattle.script_shape.specs.Tree.{Script}
+use Rattle.script_shape.specs.Roles.{Leaf, script_leaves}
+use Rattle.script_nodes.specs.Known.{nothing_known}
+use Rattle.script_nodes.specs.Defining.{Defining, between, define_word, opens_formula}
+use Rattle.script_claims.specs.Claims.{Sides, no_sides}
+use Rattle.script_claims.specs.Reads.{State, state_of, read_claim}
+use Rattle.script_hints.specs.Hints.{no_hints}
+use Rattle.script_hints.specs.Drafts.{fresh}
+use Rattle.script_hints.specs.Reading.{HintReading, hints_from, read_hint}
 use Rattle.script_grammar.specs.Meaning.{Meaning, meaning_of}
 
 -- where the reading stands: in the definitions, in the formula, or in the hints with the formula's

@@ -8,14 +8,14 @@ ghost use Rattle.script_grammar.specs.Spells.{SpellsOnce, NeverBoth, SpellsAll, 
 ghost use Rattle.script_grammar.specs.Spells.{GoalsHaveSpans, SpelledAreShort};
 ghost use Rattle.script_grammar.specs.Read.{SpelledAreRead};
 
-use goal_spans::{
-    leaves_are_of_trees, lexed_all, lexed_once, shapes_exist, spans_are_read, tokens_are_few,
-};
-use node_counts::{
-    firsts_are_unique, formulas_are_read, goals_are_counted, hints_are_counted, literals_are_told,
-    nodes_are_counted, parts_have_hypotheses, reads_definitions, reads_hints, reads_scripts,
-    splits_have_ranges,
-};
+use script_shape::shape::{leaves_are_of_trees, shapes_exist};
+use script_words::lex::{lexed_all, lexed_once, tokens_are_few};
+use goal_spans::spans_are_read;
+use script_judge::{firsts_are_unique, reads_scripts};
+use script_claims::{formulas_are_read, parts_have_hypotheses};
+use node_counts::{goals_are_counted, hints_are_counted, nodes_are_counted, splits_have_ranges};
+use script_nodes::laws::{literals_are_told, reads_definitions};
+use script_hints::laws::reads_hints;
 
 /// Nothing is done. The clause tells a caller that the words of a script, read from the left, are
 /// read as its tree.

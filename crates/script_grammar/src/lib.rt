@@ -2,21 +2,13 @@
 #![tactic(auto)]
 
 // What callers name of the crates below.
-pub use goal_spans::Span;
-pub use node_counts::{
-    Claim, LimitKind, Refusal, RefusalKind, facts_of, firsts_are_unique, goals_are_enough,
-    goals_of, hypotheses_hold, rounded_needs_are_enough,
-};
+pub use script_judge::{LimitKind, Refusal, RefusalKind};
 
 mod laws;
 mod reading;
 mod script;
 mod stage;
 
-pub use laws::{
-    script_or_refusal, scripts_are_read, spelled_are_read, spelled_are_short,
-    spelled_have_few_cases, spelled_have_few_constraints, spelled_have_few_goals,
-    spelled_have_few_hints, spelled_have_ranges, spelled_name_nodes,
-};
+pub use laws::{script_or_refusal, scripts_are_read, spelled_are_read, spelled_are_short, spelled_have_few_cases, spelled_have_few_constraints, spelled_have_few_goals, spelled_have_few_hints, spelled_have_ranges, spelled_name_nodes};
 pub use reading::{ParseStop, parse};
 pub use script::Script;

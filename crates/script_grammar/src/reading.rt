@@ -1,15 +1,18 @@
 // From a text to its script, or to its refusal.
 ghost use Rattle.std.specs.Prelude.{◌≡◌, None, Err, IfOk, IfErr};
-ghost use Rattle.node_counts.specs.script_judge.First.{IsFirstRefusal};
-ghost use Rattle.node_counts.specs.script_judge.Reading.{IsReadingOf};
-ghost use Rattle.node_counts.specs.script_judge.Views.{reading_of};
+ghost use Rattle.script_judge.specs.First.{IsFirstRefusal};
+ghost use Rattle.script_judge.specs.Reading.{IsReadingOf};
+ghost use Rattle.script_judge.specs.Views.{reading_of};
 ghost use Rattle.script_grammar.specs.Spells.{View, Spells, IsRefused};
 
 use crate::laws::{script_or_refusal, scripts_are_read, spelled_are_short};
 use crate::script::Script;
 use crate::stage::{Stage, read_leaves};
-use goal_spans::{goal_spans, leaves_are_of_trees, lexed_once, spans_are_read};
-use node_counts::{DagFault, Judgement, ReadText, Refusal, judge_text};
+use goal_spans::{goal_spans, spans_are_read};
+use script_shape::shape::leaves_are_of_trees;
+use script_words::lex::lexed_once;
+use expr_dag::DagFault;
+use script_judge::{Judgement, ReadText, Refusal, judge_text};
 use std::alloc::Global;
 
 /// Why a text gives no script.

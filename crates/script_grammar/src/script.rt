@@ -1,22 +1,23 @@
 // A script as it is read.
 ghost use Rattle.std.specs.Prelude.{◌≡◌, ◌<◌, ◌≤◌, All, Some, length, slice_get, IfOk};
 ghost use Rattle.std.specs.List.{AllByRecursion};
-ghost use Rattle.node_counts.specs.script_cases.Cases.{cases};
-ghost use Rattle.script_grammar.specs.Ranges.{HasFewCases};
 ghost use Rattle.std.specs.Option.{option_copied};
-ghost use Rattle.node_counts.specs.script_claims.Facts.{HasNormalBounds as HasNormalClaimBounds};
-ghost use Rattle.node_counts.specs.script_hints.Needs.{HasNormalBounds};
+ghost use Rattle.fx_model.specs.Expression.{IsOrdered};
+ghost use Rattle.script_cases.specs.Cases.{cases};
+ghost use Rattle.script_claims.specs.Facts.{HasNormalBounds as HasNormalClaimBounds};
+ghost use Rattle.script_hints.specs.Needs.{HasNormalBounds};
 ghost use Rattle.node_counts.specs.Few.{HasFewHints};
 ghost use Rattle.node_counts.specs.Ranges.{HaveRanges};
+ghost use Rattle.script_grammar.specs.Ranges.{HasFewCases};
 ghost use Rattle.script_grammar.specs.Names.{NamesNodes};
-ghost use Rattle.node_counts.specs.fx_model.Expression.{IsOrdered};
 
-use crate::laws::{
-    spelled_have_few_cases, spelled_have_few_goals, spelled_have_few_hints, spelled_have_ranges,
-    spelled_name_nodes,
-};
-use goal_spans::{Span, Token};
-use node_counts::{Claim, Dag, HintList, NodeReader, Sides};
+use crate::laws::{spelled_have_few_cases, spelled_have_few_goals, spelled_have_few_hints, spelled_have_ranges, spelled_name_nodes};
+use goal_spans::Span;
+use script_words::lex::Token;
+use script_claims::{Claim, Sides};
+use expr_dag::Dag;
+use script_hints::hint::HintList;
+use script_nodes::reader::NodeReader;
 use std::alloc::{AllocError, Global};
 use std::marker::Model;
 
@@ -35,7 +36,7 @@ pub struct Script<'a> {
 
 impl<'a> Model for Script<'a> {
     ghost use Rattle.std.specs.Prelude.{All};
-    ghost use Rattle.node_counts.specs.script_hints.Needs.{HasNormalBounds};
+    ghost use Rattle.script_hints.specs.Needs.{HasNormalBounds};
     ghost use Rattle.script_grammar.specs.Spells.{View, Spells};
 
     ghost Value = { View };

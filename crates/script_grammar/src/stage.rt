@@ -1,17 +1,22 @@
 // A script's words, read from the left.
 ghost use Rattle.std.specs.Prelude.{◌≡◌, ◌<◌, length, false, Err, IfOk, OnOk};
-ghost use Rattle.goal_spans.specs.script_words.Named.{word_of};
-ghost use Rattle.goal_spans.specs.script_words.Kept.{words_in};
-ghost use Rattle.goal_spans.specs.script_shape.Roles.{leaves_of};
-ghost use Rattle.node_counts.specs.script_nodes.Defining.{opens_formula};
+ghost use Rattle.script_words.specs.Named.{word_of};
+ghost use Rattle.script_words.specs.Kept.{words_in};
+ghost use Rattle.script_shape.specs.Roles.{leaves_of};
+ghost use Rattle.script_nodes.specs.Defining.{opens_formula};
 ghost use Rattle.script_grammar.specs.Steps as spec;
 ghost use Rattle.script_grammar.specs.Views.{step_of};
 
-use goal_spans::{Due, Symbol, Word, WordList};
-use node_counts::{
-    ClaimReader, DagFault, Definitions, HintReader, Sides, claims_only_grow, hints_only_grow,
-    nodes_only_grow,
-};
+use script_shape::due::Due;
+use script_words::class::Symbol;
+use script_words::words::Word;
+use script_words::list::WordList;
+use script_claims::{ClaimReader, Sides, claims_only_grow};
+use expr_dag::DagFault;
+use script_nodes::definitions::Definitions;
+use script_hints::reader::HintReader;
+use script_hints::laws::hints_only_grow;
+use script_nodes::laws::nodes_only_grow;
 use std::alloc::Global;
 
 /// The stage of a script's reading: in its definitions, in its formula, or in its hints.

@@ -2,13 +2,13 @@
 use Rattle.std.specs.Prelude.{List, [], ◌∷◌, map, Option, Some, None}
 use Rattle.std.specs.Option.{IsSomeAnd}
 use Rattle.std.specs.List.{AllByRecursion}
-use Rattle.script_nodes.specs.fx_model.Expression.{Assignment, value}
-use Rattle.script_nodes.specs.fx_model.declared.Node.{Node}
+use Rattle.fx_model.specs.Expression.{Assignment, value}
+use Rattle.fx_model.specs.declared.Node.{Node}
+use Rattle.facts.specs.Rows.{IsMet}
 use Rattle.script_bounds.specs.Sides.{UnderIsEnough, OverIsEnough}
 use Rattle.script_hints.specs.declared.hint.Constraint.{Constraint}
 use Rattle.script_hints.specs.declared.hint.Constraint.TheVariants.{NotZero, Below, Above}
 use Rattle.script_hints.specs.Needs.{need_of}
-use Rattle.script_bounds.specs.facts.Rows.{IsMet}
 use Rattle.script_hints.specs.Meets.{HoldsAt, NeedsAreEnough, MetSidesAreEqual}
 
 some_and : {A : Type 0} (P Q : A → Type 0) (o : Option A) → ((x : A) → P x → Q x)

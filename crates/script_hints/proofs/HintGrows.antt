@@ -1,7 +1,7 @@
 -- Nodes never go while words of hints are read.
 use Rattle.std.proofs.Common.{ℕ, ◌≤◌, IfSome, Option, Some, None, le_refl}
-use Rattle.script_nodes.specs.script_words.Words.{Word, name, rounding, literal, sign}
-use Rattle.script_nodes.specs.script_shape.declared.due.Due.TheVariants as d
+use Rattle.script_words.specs.Words.{Word, name, rounding, literal, sign}
+use Rattle.script_shape.specs.declared.due.Due.TheVariants as d
 use Rattle.script_nodes.specs.Waits.{Reading, Complete, expr_done}
 use Rattle.script_nodes.specs.Growth.{node_count, NamesGrow, EndsGrow, WordsGrow}
 use Rattle.script_hints.specs.Reading.{HintReading, ended_as, ended, variable_word, read_hint}

@@ -1,30 +1,28 @@
 -- The words of hints are read as their trees.
 use Rattle.std.proofs.Common.{◌≡◌, List, [], ◌∷◌, ◌++◌, None, false, refl, ap, ◌∙◌, append_assoc}
-use Rattle.script_nodes.specs.fx_model.declared.ExprId.{ExprId}
-use Rattle.script_nodes.specs.dyadic.declared.number.Dyadic.{Dyadic}
-use Rattle.script_hints.specs.declared.hint.Constraint.{Constraint}
-use Rattle.script_nodes.specs.script_words.declared.class.Number.TheVariants as digits_kind
-use Rattle.script_nodes.specs.script_words.declared.class.Symbol.{Symbol}
-use Rattle.script_nodes.specs.script_words.declared.class.Symbol.TheVariants as s
-use Rattle.script_nodes.specs.script_words.Words.{sign, literal}
-use Rattle.script_nodes.specs.script_shape.declared.due.Due.TheVariants as d
-use Rattle.script_nodes.specs.script_shape.Tree.{plain, operator, zero_alone, digits, Bound}
-use Rattle.script_nodes.specs.script_shape.Tree.{unsigned, positive, negative, Expr, Need, nonzero}
-use Rattle.script_nodes.specs.script_shape.Tree.{below, not_above, above, not_below, NeedList}
-use Rattle.script_nodes.specs.script_shape.Tree.{last_need, more_needs, Needs, always, provided}
-use Rattle.script_nodes.specs.script_shape.Tree.{Points, last_point, more_points, CutForm, in_four}
-use Rattle.script_nodes.specs.script_shape.Tree.{pieces, at_points, Names, last_name, more_names}
-use Rattle.script_nodes.specs.script_shape.Tree.{Halving, halved_by, with_goal, Hint, rewrite, like}
-use Rattle.script_nodes.specs.script_shape.Tree.{split, halving, no_hint, hint}
-use Rattle.script_nodes.specs.script_shape.Roles.{Leaf, at, bound_leaves, expr_leaves, need_leaves}
-use Rattle.script_nodes.specs.script_shape.Roles.{need_list_leaves, needs_leaves, points_leaves}
-use Rattle.script_nodes.specs.script_shape.Roles.{cut_leaves, names_leaves, halving_leaves}
-use Rattle.script_nodes.specs.script_shape.Roles.{hint_leaves, hints_leaves}
+use Rattle.fx_model.specs.declared.ExprId.{ExprId}
+use Rattle.dyadic.specs.declared.number.Dyadic.{Dyadic}
+use Rattle.script_words.specs.declared.class.Number.TheVariants as digits_kind
+use Rattle.script_words.specs.declared.class.Symbol.{Symbol}
+use Rattle.script_words.specs.declared.class.Symbol.TheVariants as s
+use Rattle.script_words.specs.Words.{sign, literal}
+use Rattle.script_shape.specs.declared.due.Due.TheVariants as d
+use Rattle.script_shape.specs.Expressions.{plain, operator, zero_alone, digits, Bound, unsigned}
+use Rattle.script_shape.specs.Expressions.{positive, negative, Expr}
+use Rattle.script_shape.specs.Hints.{Need, nonzero, below, not_above, above, not_below, NeedList}
+use Rattle.script_shape.specs.Hints.{last_need, more_needs, Needs, always, provided, Points}
+use Rattle.script_shape.specs.Hints.{last_point, more_points, CutForm, in_four, pieces, at_points}
+use Rattle.script_shape.specs.Hints.{Names, last_name, more_names, Halving, halved_by, with_goal}
+use Rattle.script_shape.specs.Hints.{Hint, rewrite, like, split, halving, no_hint, hint}
+use Rattle.script_shape.specs.Roles.{Leaf, at, bound_leaves, expr_leaves, need_leaves}
+use Rattle.script_shape.specs.Roles.{need_list_leaves, needs_leaves, points_leaves, cut_leaves}
+use Rattle.script_shape.specs.Roles.{names_leaves, halving_leaves, hint_leaves, hints_leaves}
 use Rattle.script_nodes.specs.Known.{Known, named}
 use Rattle.script_nodes.specs.Written.{bound_written}
 use Rattle.script_nodes.specs.Values.{expr_value}
 use Rattle.script_nodes.specs.Waits.{read}
 use Rattle.script_nodes.specs.ReadingLaw.{ReadsTrees}
+use Rattle.script_hints.specs.declared.hint.Constraint.{Constraint}
 use Rattle.script_hints.specs.declared.hint.HintList.{HintList}
 use Rattle.script_hints.specs.declared.stage.Stage.{Stage}
 use Rattle.script_hints.specs.declared.stage.Stage.TheVariants as stage

@@ -1,12 +1,12 @@
 -- The words of an expression go to the expression in hand, and the hint stays.
 use Rattle.std.proofs.Common.{◌≡◌, List, [], ◌∷◌, ◌++◌, Some, None, refl, ap, ◌∙◌, sym, append-nil}
-use Rattle.script_nodes.specs.script_words.Words.{Word}
-use Rattle.script_nodes.specs.script_shape.declared.due.Due.{Due}
-use Rattle.script_nodes.specs.script_shape.declared.due.Due.TheVariants as d
-use Rattle.script_nodes.specs.script_shape.Tree.{Expr}
-use Rattle.script_nodes.specs.script_shape.Roles.{Leaf, at, expr_leaves}
-use Rattle.script_nodes.specs.script_shape.Inner.{EachRole, IsInner, expr_inner}
-use Rattle.script_nodes.specs.fx_model.declared.ExprId.{ExprId}
+use Rattle.fx_model.specs.declared.ExprId.{ExprId}
+use Rattle.script_words.specs.Words.{Word}
+use Rattle.script_shape.specs.declared.due.Due.{Due}
+use Rattle.script_shape.specs.declared.due.Due.TheVariants as d
+use Rattle.script_shape.specs.Expressions.{Expr}
+use Rattle.script_shape.specs.Roles.{Leaf, at, expr_leaves}
+use Rattle.script_shape.specs.Inner.{EachRole, IsInner, expr_inner}
 use Rattle.script_nodes.specs.Known.{Known}
 use Rattle.script_nodes.specs.Values.{expr_value}
 use Rattle.script_nodes.specs.Waits.{Reading, expr_done, read, read_all}

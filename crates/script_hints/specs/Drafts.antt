@@ -1,10 +1,10 @@
 -- The hint that is being read, step by step, and the hints before it.
 use Rattle.std.specs.Prelude.{ℕ, List, [], ◌∷◌, ◌++◌, Bool, true, false}
-use Rattle.script_nodes.specs.fx_model.declared.ExprId.{ExprId}
-use Rattle.script_nodes.specs.dyadic.declared.number.Dyadic.{Dyadic}
-use Rattle.script_nodes.specs.script_words.declared.class.Symbol.{Symbol}
-use Rattle.script_nodes.specs.script_words.declared.class.Symbol.TheVariants as s
-use Rattle.script_nodes.specs.literal_order.declared.written.Written.{Written}
+use Rattle.fx_model.specs.declared.ExprId.{ExprId}
+use Rattle.dyadic.specs.declared.number.Dyadic.{Dyadic}
+use Rattle.literal_order.specs.declared.written.Written.{Written}
+use Rattle.script_words.specs.declared.class.Symbol.{Symbol}
+use Rattle.script_words.specs.declared.class.Symbol.TheVariants as s
 use Rattle.script_hints.specs.declared.hint.Constraint.{Constraint}
 use Rattle.script_hints.specs.declared.hint.Constraint.TheVariants as constraint
 use Rattle.script_hints.specs.declared.hint.Cutting.TheVariants as cutting

@@ -1,11 +1,12 @@
 -- Worked rows: hints with what they say.
 use Rattle.std.specs.Prelude.{◌≡◌, ℕ, codes, List, [], ◌∷◌, refl}
-use Rattle.script_nodes.specs.fx_model.declared.ExprId.{ExprId}
-use Rattle.script_nodes.specs.script_words.declared.class.Spelled.TheVariants as spelled
-use Rattle.script_nodes.specs.script_shape.Tree.{AnyName, plain, Expr, term, factor, atom, variable}
-use Rattle.script_nodes.specs.script_shape.Tree.{nonzero, last_need, provided, digits, pieces}
-use Rattle.script_nodes.specs.script_shape.Tree.{in_four, last_name, more_names, halved_by, Hints}
-use Rattle.script_nodes.specs.script_shape.Tree.{rewrite, like, split, halving, no_hint, hint}
+use Rattle.fx_model.specs.declared.ExprId.{ExprId}
+use Rattle.script_words.specs.declared.class.Spelled.TheVariants as spelled
+use Rattle.script_shape.specs.Expressions.{AnyName, plain, Expr, term, factor, atom, variable}
+use Rattle.script_shape.specs.Expressions.{digits}
+use Rattle.script_shape.specs.Hints.{nonzero, last_need, provided, pieces, in_four, last_name}
+use Rattle.script_shape.specs.Hints.{more_names, halved_by, Hints, rewrite, like, split, halving}
+use Rattle.script_shape.specs.Hints.{no_hint, hint}
 use Rattle.script_nodes.specs.Operators.{number_of}
 use Rattle.script_nodes.specs.Known.{Name, nothing_known, put, variable_put, named}
 use Rattle.script_hints.specs.declared.hint.Constraint.TheVariants as constraint

@@ -3,27 +3,26 @@
 use Rattle.std.specs.Prelude.{ℕ, nat_lt, ◌==◌, List, [], ◌∷◌, ◌++◌, Bool, true, false, None}
 use Rattle.std.specs.Prelude.{if◌then◌else◌}
 use Rattle.std.specs.List.{list_any}
-use Rattle.script_nodes.specs.fx_model.declared.ExprId.{ExprId}
-use Rattle.script_nodes.specs.dyadic.declared.number.Dyadic.{Dyadic}
-use Rattle.script_nodes.specs.dyadic.declared.number.End.{End}
-use Rattle.script_nodes.specs.dyadic.declared.number.End.TheVariants as end
-use Rattle.script_nodes.specs.interval.Results.{point_of}
-use Rattle.script_hints.specs.declared.hint.Constraint.{Constraint}
-use Rattle.script_hints.specs.declared.hint.Constraint.TheVariants as constraint
-use Rattle.script_nodes.specs.script_shape.Tree.{AnyName, Need, nonzero, below, not_above, above}
-use Rattle.script_nodes.specs.script_shape.Tree.{not_below, NeedList, last_need, more_needs, Needs}
-use Rattle.script_nodes.specs.script_shape.Tree.{always, provided, Points, last_point, more_points}
-use Rattle.script_nodes.specs.script_shape.Tree.{CutForm, in_four, pieces, at_points, Names}
-use Rattle.script_nodes.specs.script_shape.Tree.{last_name, more_names, Halving, halved_by}
-use Rattle.script_nodes.specs.script_shape.Tree.{with_goal, Hint, rewrite, like, split, halving}
-use Rattle.script_nodes.specs.script_shape.Tree.{Hints, no_hint, hint}
+use Rattle.fx_model.specs.declared.ExprId.{ExprId}
+use Rattle.dyadic.specs.declared.number.Dyadic.{Dyadic}
+use Rattle.dyadic.specs.declared.number.End.{End}
+use Rattle.dyadic.specs.declared.number.End.TheVariants as end
+use Rattle.interval.specs.Results.{point_of}
+use Rattle.literal_order.specs.declared.written.Written.{Written}
+use Rattle.literal_order.specs.Values.{written_value}
+use Rattle.script_shape.specs.Expressions.{AnyName}
+use Rattle.script_shape.specs.Hints.{Need, nonzero, below, not_above, above, not_below, NeedList}
+use Rattle.script_shape.specs.Hints.{last_need, more_needs, Needs, always, provided, Points}
+use Rattle.script_shape.specs.Hints.{last_point, more_points, CutForm, in_four, pieces, at_points}
+use Rattle.script_shape.specs.Hints.{Names, last_name, more_names, Halving, halved_by, with_goal}
+use Rattle.script_shape.specs.Hints.{Hint, rewrite, like, split, halving, Hints, no_hint, hint}
 use Rattle.script_nodes.specs.Written.{bound_written}
 use Rattle.script_nodes.specs.Definitions.{name_text}
 use Rattle.script_nodes.specs.Operators.{digits_text, number_of}
 use Rattle.script_nodes.specs.Known.{Known, PlacedNode, named}
 use Rattle.script_nodes.specs.Values.{expr_value}
-use Rattle.script_nodes.specs.literal_order.declared.written.Written.{Written}
-use Rattle.script_nodes.specs.literal_order.Values.{written_value}
+use Rattle.script_hints.specs.declared.hint.Constraint.{Constraint}
+use Rattle.script_hints.specs.declared.hint.Constraint.TheVariants as constraint
 use Rattle.script_hints.specs.declared.hint.Cutting.{Cutting}
 use Rattle.script_hints.specs.declared.hint.Cutting.TheVariants as cutting
 use Rattle.script_hints.specs.declared.hint.HintList.{HintList}

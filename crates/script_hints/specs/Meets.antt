@@ -2,10 +2,10 @@
 use Rattle.std.specs.Prelude.{◌≡◌, ◌≢◌, List, map, Some}
 use Rattle.std.specs.Option.{IsSomeAnd}
 use Rattle.std.specs.List.{AllByRecursion}
-use Rattle.script_nodes.specs.fx_model.Fraction.{Fraction, zero_ℚ}
-use Rattle.script_nodes.specs.fx_model.Expression.{Assignment, value}
-use Rattle.script_nodes.specs.fx_model.declared.Node.{Node}
-use Rattle.script_bounds.specs.facts.Rows.{IsMet}
+use Rattle.fx_model.specs.Fraction.{Fraction, zero_ℚ}
+use Rattle.fx_model.specs.Expression.{Assignment, value}
+use Rattle.fx_model.specs.declared.Node.{Node}
+use Rattle.facts.specs.Rows.{IsMet}
 use Rattle.script_bounds.specs.Sides.{IsUnderWritten, IsOverWritten}
 use Rattle.script_hints.specs.declared.hint.Constraint.{Constraint}
 use Rattle.script_hints.specs.declared.hint.Constraint.TheVariants.{NotZero, Below, Above}

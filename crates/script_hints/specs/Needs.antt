@@ -1,8 +1,8 @@
 -- Constraints with bounds as they are written, and the needs that stand for them.
 use Rattle.std.specs.Prelude.{⊤, All, Some}
-use Rattle.script_bounds.specs.facts.declared.hint.Need.{Need}
-use Rattle.script_bounds.specs.facts.declared.hint.Need.TheVariants as need
-use Rattle.script_nodes.specs.literal_order.Values.{IsWritten}
+use Rattle.literal_order.specs.Values.{IsWritten}
+use Rattle.facts.specs.declared.hint.Need.{Need}
+use Rattle.facts.specs.declared.hint.Need.TheVariants as need
 use Rattle.script_bounds.specs.Needs.{below_of, above_of}
 use Rattle.script_hints.specs.declared.hint.Constraint.{Constraint}
 use Rattle.script_hints.specs.declared.hint.Constraint.TheVariants.{NotZero, Below, Above}

@@ -1,13 +1,13 @@
 -- Hints, word by word from the left. Each word goes to the expression in hand, or ends it and goes
 -- to the hint.
 use Rattle.std.specs.Prelude.{List, [], ◌∷◌, Option, Some, None}
-use Rattle.script_nodes.specs.fx_model.declared.ExprId.{ExprId}
-use Rattle.script_nodes.specs.script_words.declared.class.Symbol.{Symbol}
-use Rattle.script_nodes.specs.script_words.declared.class.Symbol.TheVariants as s
-use Rattle.script_nodes.specs.script_words.Words.{Word, name, rounding, literal, sign}
-use Rattle.script_nodes.specs.script_shape.declared.due.Due.{Due}
-use Rattle.script_nodes.specs.script_shape.declared.due.Due.TheVariants as d
-use Rattle.script_nodes.specs.script_shape.Roles.{Leaf}
+use Rattle.fx_model.specs.declared.ExprId.{ExprId}
+use Rattle.script_words.specs.declared.class.Symbol.{Symbol}
+use Rattle.script_words.specs.declared.class.Symbol.TheVariants as s
+use Rattle.script_words.specs.Words.{Word, name, rounding, literal, sign}
+use Rattle.script_shape.specs.declared.due.Due.{Due}
+use Rattle.script_shape.specs.declared.due.Due.TheVariants as d
+use Rattle.script_shape.specs.Roles.{Leaf}
 use Rattle.script_nodes.specs.Literals.{literal_of}
 use Rattle.script_nodes.specs.Operators.{number_of}
 use Rattle.script_nodes.specs.Known.{Known, PlacedNode, named}

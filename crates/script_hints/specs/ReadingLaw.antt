@@ -1,10 +1,10 @@
 -- Reading the words of hints from the left gives the nodes of their expressions, and what the hints
 -- say.
 use Rattle.std.specs.Prelude.{◌≡◌, ◌≤◌}
-use Rattle.script_nodes.specs.script_words.Words.{Word}
-use Rattle.script_nodes.specs.script_shape.declared.due.Due.{Due}
-use Rattle.script_nodes.specs.script_shape.Tree.{Hints}
-use Rattle.script_nodes.specs.script_shape.Roles.{hints_leaves}
+use Rattle.script_words.specs.Words.{Word}
+use Rattle.script_shape.specs.declared.due.Due.{Due}
+use Rattle.script_shape.specs.Hints.{Hints}
+use Rattle.script_shape.specs.Roles.{hints_leaves}
 use Rattle.script_nodes.specs.Known.{Known}
 use Rattle.script_nodes.specs.Growth.{node_count}
 use Rattle.script_hints.specs.declared.hint.HintList.{HintList}

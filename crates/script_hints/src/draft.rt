@@ -1,7 +1,7 @@
 //! The hint that is being read, and what the hints before it say.
 
 ghost use Rattle.std.specs.Prelude.{◌≡◌, [], ◌∷◌, ◌++◌, All, OnOk};
-ghost use Rattle.script_nodes.specs.literal_order.Values.{IsWritten};
+ghost use Rattle.literal_order.specs.Values.{IsWritten};
 ghost use Rattle.script_hints.specs.Drafts as spec;
 ghost use Rattle.script_hints.specs.Hints as spec_hints;
 ghost use Rattle.script_hints.specs.Needs.{HasNormalBound, HasNormalBounds};
@@ -9,8 +9,12 @@ ghost use Rattle.script_hints.specs.Needs.{HasNormalBound, HasNormalBounds};
 use crate::hint::{Constraint, Cutting, Hint, HintList, Split};
 use crate::lists::{add_end, add_variable};
 use crate::stage::{Bounded, Stage, piece_count};
-use script_bounds::{Items, Written, below};
-use script_nodes::{Dyadic, ExprId, Symbol};
+use fx_edge::Items;
+use literal_order::Written;
+use script_bounds::below;
+use dyadic::Dyadic;
+use fx_model::ExprId;
+use script_words::class::Symbol;
 use std::alloc::{AllocError, Global};
 use std::marker::Model;
 use std::mem::replace;

@@ -3,8 +3,12 @@
 ghost use Rattle.std.specs.Prelude.{◌≡◌};
 ghost use Rattle.script_hints.specs.Needs.{HasNormalBound, need_of};
 
-use script_bounds::{Items, Need, Written, above, below};
-use script_nodes::{Dyadic, ExprId};
+use fx_edge::Items;
+use facts::Need;
+use literal_order::Written;
+use script_bounds::{above, below};
+use dyadic::Dyadic;
+use fx_model::ExprId;
 
 /// A constraint of a rewriting, with its bound as it is written.
 #[derive(Clone, Copy, PartialEq, Eq, Debug)]

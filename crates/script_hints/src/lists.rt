@@ -4,7 +4,8 @@ ghost use Rattle.std.specs.Prelude.{◌≡◌, OnOk};
 ghost use Rattle.std.specs.List.{list_any};
 ghost use Rattle.script_hints.specs.Hints as spec;
 
-use script_nodes::{Dyadic, End, ExprId};
+use dyadic::{Dyadic, End};
+use fx_model::ExprId;
 use std::alloc::AllocError;
 
 fn has(variables: &[ExprId], variable: ExprId) -> bool

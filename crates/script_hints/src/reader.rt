@@ -1,7 +1,7 @@
 //! Hints, read word by word from the left.
 
 ghost use Rattle.std.specs.Prelude.{◌≡◌, ◌<◌, length, All, Err, IfOk, IfErr, OnOk};
-ghost use Rattle.script_nodes.specs.script_words.Named.{word_of};
+ghost use Rattle.script_words.specs.Named.{word_of};
 ghost use Rattle.script_nodes.specs.Known as spec_known;
 ghost use Rattle.script_hints.specs.Drafts as spec_drafts;
 ghost use Rattle.script_hints.specs.Hints as spec_hints;
@@ -10,10 +10,14 @@ ghost use Rattle.script_hints.specs.Reading as spec;
 
 use crate::draft::HintDraft;
 use crate::hint::HintList;
-use script_bounds::Written;
+use literal_order::Written;
 use script_nodes::digits::{literal_of, number_of};
 use script_nodes::reader::NodeReader;
-use script_nodes::{DagFault, Due, ExprId, Symbol, Word};
+use expr_dag::DagFault;
+use script_shape::due::Due;
+use fx_model::ExprId;
+use script_words::class::Symbol;
+use script_words::words::Word;
 use std::alloc::Global;
 use std::marker::Model;
 

@@ -3,7 +3,7 @@
 ghost use Rattle.std.specs.Prelude.{◌≡◌};
 ghost use Rattle.script_hints.specs.Hints as spec;
 
-use script_nodes::ExprId;
+use fx_model::ExprId;
 
 /// How far the hint is read.
 #[derive(Clone, Copy, Debug)]

@@ -2,8 +2,8 @@
 use Rattle.std.proofs.Common.{◌≡◌, ℕ, zero, suc, ◌+◌, ◌-◌, ◌≤◌, List, [], ◌∷◌, length, take, Option}
 use Rattle.std.proofs.Common.{Some, None, Bool, refl, sym, ap, ◌∙◌, subst, arith}
 use Rattle.std.specs.List.{slice_get}
-use Rattle.script_shape.specs.script_words.declared.lex.Token.{Token}
-use Rattle.script_shape.specs.script_words.Words.{Word}
+use Rattle.script_words.specs.declared.lex.Token.{Token}
+use Rattle.script_words.specs.Words.{Word}
 use Rattle.script_shape.specs.declared.due.Due.{Due}
 use Rattle.script_shape.specs.Roles.{at, leaves_of}
 use Rattle.script_judge.specs.declared.refusal.Refusal.{Refusal}

@@ -3,9 +3,10 @@ use Rattle.std.proofs.Common.{◌≡◌, ℕ, ◌+◌, ◌-◌, ◌≤◌, Bool,
 use Rattle.std.proofs.Common.{length, drop, Option, Some, None, refl, sym, ap, ◌∙◌, subst, arith}
 use Rattle.std.proofs.lemmas.Bool.{ltb-false}
 use Rattle.std.proofs.Math.ListN.{drop_of_length-le}
-use Rattle.script_shape.specs.script_words.Words.{Word}
+use Rattle.script_words.specs.Words.{Word}
 use Rattle.script_shape.specs.declared.due.Due.{Due}
 use Rattle.script_shape.specs.Roles.{Leaf, at, leaves_of}
+use Rattle.script_cases.specs.Parts.{begun_cases}
 use Rattle.script_judge.specs.declared.refusal.RefusalKind.{RefusalKind}
 use Rattle.script_judge.specs.declared.fault.Fault.{Fault}
 use Rattle.script_judge.specs.declared.judge.Seen.{Seen as CodeSeen}
@@ -15,15 +16,15 @@ use Rattle.script_judge.specs.Limits.{IsWithinLimits}
 use Rattle.script_judge.specs.Names.{is_used, is_some_among, defines, ended, operand_name}
 use Rattle.script_judge.specs.Names.{split_name}
 use Rattle.script_judge.specs.Bounds.{is_bad_bound}
-use Rattle.script_cases.specs.Parts.{begun_cases}
 use Rattle.script_judge.specs.Splits.{SplitsSeen, ends_between, is_rangeless, is_bad_point}
 use Rattle.script_judge.specs.SplitViews.{splits_seen}
 use Rattle.script_judge.specs.FewCases.{still_few}
 use Rattle.script_judge.specs.Numbers.{Notes, Tells, has_no_pieces, is_past_lsb, is_past_pieces}
-use Rattle.script_judge.specs.Judge.{Seen, nothing_seen, seen_after, is_arrow, has_arrow}
-use Rattle.script_judge.specs.Judge.{arrow_count, is_on_wrong_side, form_kind, form_refusal}
-use Rattle.script_judge.specs.Judge.{limit_kind, is_past_cases, limit_refusal, or_else, refusal_at}
-use Rattle.script_judge.specs.Judge.{Judged, refused, passed, fails}
+use Rattle.script_judge.specs.Judge.{Seen, nothing_seen, seen_after, arrow_count, is_on_wrong_side}
+use Rattle.script_judge.specs.Judge.{form_kind, form_refusal, limit_kind, is_past_cases}
+use Rattle.script_judge.specs.Judge.{limit_refusal, or_else, refusal_at, Judged, refused, passed}
+use Rattle.script_judge.specs.Judge.{fails}
+use Rattle.script_judge.specs.Sides.{is_arrow, has_arrow}
 use Rattle.script_judge.specs.Views.{IsSeen}
 
 -- ---- arrows

@@ -1,6 +1,6 @@
 -- Where no word is left.
 use Rattle.std.proofs.Common.{◌≡◌, ℕ, suc, ◌≤◌, false, nat_eq, List, [], ◌∷◌, length, refl, arith}
-use Rattle.script_shape.specs.script_words.Words.{Word}
+use Rattle.script_words.specs.Words.{Word}
 use Rattle.script_shape.specs.declared.due.Due.{Due}
 use Rattle.script_shape.specs.Roles.{leaves_of}
 use Rattle.script_judge.specs.Judge.{is_empty}

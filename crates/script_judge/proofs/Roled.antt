@@ -2,7 +2,7 @@
 use Rattle.std.proofs.Common.{◌≡◌, ℕ, List, [], ◌∷◌, ◌++◌, length, take, drop, map, Option, Some}
 use Rattle.std.proofs.Common.{None, refl, sym, ap, ◌∙◌, subst}
 use Rattle.std.proofs.lemmas.List.{take-append-drop}
-use Rattle.script_shape.specs.script_words.Words.{Word, class_of}
+use Rattle.script_words.specs.Words.{Word, class_of}
 use Rattle.script_shape.specs.declared.due.Due.{Due}
 use Rattle.script_shape.specs.Tree.{BeginsScript}
 use Rattle.script_shape.specs.Shape.{step, role_next, start}

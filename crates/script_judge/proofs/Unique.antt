@@ -2,11 +2,12 @@
 use Rattle.std.proofs.Common.{◌≡◌, ℕ, ◌+◌, Bool, true, false, List, length, take, Option, Some}
 use Rattle.std.proofs.Common.{None, IsTrue, ◌↔◌, refl, sym, ap, ◌∙◌, subst, arith}
 use Rattle.std.proofs.lemmas.Str.{utf8_valid_len-IsValidUpTo}
-use Rattle.script_bounds.specs.fx_model.Fraction.{Fraction}
-use Rattle.script_shape.specs.script_words.Lex.{LexesOnce}
-use Rattle.script_shape.specs.script_words.Words.{Word}
+use Rattle.fx_model.specs.Fraction.{Fraction}
+use Rattle.script_words.specs.Lex.{LexesOnce}
+use Rattle.script_words.specs.Words.{Word}
+use Rattle.script_words.specs.Named.{words_of}
+use Rattle.script_words.specs.Utf8.{no_both}
 use Rattle.script_shape.specs.declared.due.Due.{Due}
-use Rattle.script_shape.specs.script_words.Named.{words_of}
 use Rattle.script_shape.specs.Shape.{start}
 use Rattle.script_shape.specs.Roles.{Leaf}
 use Rattle.script_shape.specs.ShapeLaw.{IsShapeOf, ShapeIsUnique, RolesAreUnique, roles_from}
@@ -22,7 +23,6 @@ use Rattle.script_judge.specs.Numbers.{Notes, Tells}
 use Rattle.script_judge.specs.Judge.{Seen, nothing_seen, seen_after, refusal_at, Judged}
 use Rattle.script_judge.specs.Judge.{none_refused, refused, passed}
 use Rattle.script_judge.specs.declared.refusal.RefusalKind.TheVariants as kind
-use Rattle.script_shape.specs.script_words.Utf8.{no_both}
 
 -- ---- readings
 

@@ -5,9 +5,9 @@ use Rattle.std.specs.List.{slice_get}
 use Rattle.std.proofs.Math.Seq.{take-length}
 use Rattle.std.proofs.lemmas.List.Elements.{All-nil}
 use Rattle.std.proofs.lemmas.Option.{slice_get_past}
-use Rattle.script_shape.specs.script_words.Lex.{Lexes}
-use Rattle.script_shape.specs.script_words.Words.{Word}
-use Rattle.script_shape.specs.script_words.Named.{IsToken}
+use Rattle.script_words.specs.Lex.{Lexes}
+use Rattle.script_words.specs.Words.{Word}
+use Rattle.script_words.specs.Named.{IsToken}
 use Rattle.script_shape.specs.Tree.{script_words}
 use Rattle.script_shape.specs.Roles.{script_leaves}
 use Rattle.script_judge.specs.declared.refusal.Refusal.{Refusal}

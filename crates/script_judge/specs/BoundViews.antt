@@ -1,6 +1,6 @@
 -- The code's bounds as those that definitions speak of.
 use Rattle.std.specs.Option.{option_map}
-use Rattle.script_bounds.specs.literal_order.Values.{written_value}
+use Rattle.literal_order.specs.Values.{written_value}
 use Rattle.script_judge.specs.declared.bounds.Bounds.{Bounds}
 use Rattle.script_judge.specs.declared.numbers.Notes.{Notes as CodeNotes}
 use Rattle.script_judge.specs.Bounds.{BoundsSeen}

@@ -1,9 +1,9 @@
 -- The bounds of ranges: what they stand for, and which are refused.
 use Rattle.std.specs.Prelude.{◌&&◌, ◌||◌, List, [], ◌∷◌, Option, Some, None, Bool, true, false}
 use Rattle.std.specs.Prelude.{if◌then◌else◌}
-use Rattle.script_bounds.specs.fx_model.Fraction.{Fraction}
-use Rattle.script_shape.specs.script_words.declared.class.Symbol.TheVariants as s
-use Rattle.script_shape.specs.script_words.Words.{Word, literal, sign}
+use Rattle.fx_model.specs.Fraction.{Fraction}
+use Rattle.script_words.specs.declared.class.Symbol.TheVariants as s
+use Rattle.script_words.specs.Words.{Word, literal, sign}
 use Rattle.script_shape.specs.declared.due.Due.{Due}
 use Rattle.script_shape.specs.declared.due.Due.TheVariants as d
 use Rattle.script_shape.specs.Roles.{Leaf}

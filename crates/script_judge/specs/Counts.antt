@@ -1,9 +1,8 @@
 -- What is counted token by token, and what is open.
 use Rattle.std.specs.Prelude.{ℕ, ◌+◌, nat_lt, not, Bool, true, false}
-use Rattle.script_shape.specs.script_words.declared.class.Symbol.{Symbol}
-use Rattle.script_shape.specs.script_words.declared.class.Symbol.TheVariants as s
-use Rattle.script_shape.specs.script_words.Words.{Word, name, rounding, literal, sign}
-use Rattle.script_shape.specs.script_words.Words.{is_open_brace}
+use Rattle.script_words.specs.declared.class.Symbol.{Symbol}
+use Rattle.script_words.specs.declared.class.Symbol.TheVariants as s
+use Rattle.script_words.specs.Words.{Word, name, rounding, literal, sign, is_open_brace}
 use Rattle.script_shape.specs.declared.due.Due.{Due}
 use Rattle.script_shape.specs.declared.due.Due.TheVariants as d
 use Rattle.script_judge.specs.declared.counts.ScriptPart.{ScriptPart}

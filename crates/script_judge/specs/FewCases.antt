@@ -2,9 +2,9 @@
 use Rattle.std.proofs.Common.{◌≡◌, suc, ◌*◌, ◌≤◌, Bool, true, false, length, Option, Some, None}
 use Rattle.std.proofs.Common.{refl, arith}
 use Rattle.std.proofs.lemmas.Bool.{ltb-false}
-use Rattle.script_bounds.specs.fx_model.Fraction.{Fraction}
-use Rattle.script_shape.specs.script_words.Words.{Word, sign}
-use Rattle.script_shape.specs.script_words.declared.class.Symbol.TheVariants as s
+use Rattle.fx_model.specs.Fraction.{Fraction}
+use Rattle.script_words.specs.Words.{Word, sign}
+use Rattle.script_words.specs.declared.class.Symbol.TheVariants as s
 use Rattle.script_shape.specs.declared.due.Due.{Due}
 use Rattle.script_shape.specs.declared.due.Due.TheVariants as d
 use Rattle.script_cases.specs.Cases.{case_count}

@@ -1,11 +1,12 @@
 -- The refusals that are judged on the words before the reading ends, token by token.
 use Rattle.std.specs.Prelude.{◌≡◌, ℕ, ◌+◌, ◌&&◌, ◌||◌, not, nat_lt, List, [], ◌∷◌, length, Option}
 use Rattle.std.specs.Prelude.{Some, None, Bool, true, false, if◌then◌else◌, refl}
-use Rattle.script_shape.specs.script_words.declared.class.Symbol.TheVariants as s
-use Rattle.script_shape.specs.script_words.Words.{Word, sign}
+use Rattle.script_words.specs.declared.class.Symbol.TheVariants as s
+use Rattle.script_words.specs.Words.{Word, sign}
 use Rattle.script_shape.specs.declared.due.Due.{Due}
 use Rattle.script_shape.specs.declared.due.Due.TheVariants as d
 use Rattle.script_shape.specs.Roles.{Leaf}
+use Rattle.script_cases.specs.Parts.{begun_cases}
 use Rattle.script_judge.specs.declared.refusal.RefusalKind.{RefusalKind}
 use Rattle.script_judge.specs.declared.refusal.RefusalKind.TheVariants as kind
 use Rattle.script_judge.specs.declared.refusal.LimitKind.TheVariants as limit
@@ -16,8 +17,7 @@ use Rattle.script_judge.specs.declared.fault.Fault.{Fault}
 use Rattle.script_judge.specs.Counts.{one_if, counts_after}
 use Rattle.script_judge.specs.Nesting.{opened_after}
 use Rattle.script_judge.specs.Bounds.{BoundsSeen, no_bounds, bounds_after, is_bad_bound}
-use Rattle.script_cases.specs.Parts.{begun_cases}
-pub use Rattle.script_judge.specs.Sides.{is_arrow, is_or, has_arrow, begins_bound}
+use Rattle.script_judge.specs.Sides.{is_arrow, is_or, has_arrow, begins_bound}
 use Rattle.script_judge.specs.Splits.{SplitsSeen, no_splits, splits_after, ends_between}
 use Rattle.script_judge.specs.Splits.{is_rangeless, is_bad_point}
 use Rattle.script_judge.specs.Numbers.{Notes, Tells, has_no_pieces, is_past_lsb, is_past_pieces}

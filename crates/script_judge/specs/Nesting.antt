@@ -1,9 +1,9 @@
 -- What is open: parentheses of expressions and calls, bars, and minus signs whose factor isn't
 -- complete.
 use Rattle.std.specs.Prelude.{List, [], ◌∷◌}
-use Rattle.script_shape.specs.script_words.declared.class.Symbol.{Symbol}
-use Rattle.script_shape.specs.script_words.declared.class.Symbol.TheVariants as s
-use Rattle.script_shape.specs.script_words.Words.{Word, name, rounding, literal, sign}
+use Rattle.script_words.specs.declared.class.Symbol.{Symbol}
+use Rattle.script_words.specs.declared.class.Symbol.TheVariants as s
+use Rattle.script_words.specs.Words.{Word, name, rounding, literal, sign}
 use Rattle.script_shape.specs.declared.due.Due.{Due}
 use Rattle.script_shape.specs.declared.due.Due.TheVariants as d
 use Rattle.script_judge.specs.declared.nesting.Open.{Open}

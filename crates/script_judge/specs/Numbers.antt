@@ -2,9 +2,9 @@
 use Rattle.std.specs.Prelude.{◌≡◌, ℕ, ◌==◌, nat_lt, List, Option, Some, Bool, true, false, IsTrue}
 use Rattle.std.specs.Prelude.{◌↔◌}
 use Rattle.std.specs.Str.Parse.{digits_value}
-use Rattle.script_bounds.specs.fx_model.Fraction.{Fraction}
-use Rattle.script_bounds.specs.literal.Normal.{IsPastLimits}
-use Rattle.script_shape.specs.script_words.Words.{Word, literal}
+use Rattle.fx_model.specs.Fraction.{Fraction}
+use Rattle.literal.specs.Normal.{IsPastLimits}
+use Rattle.script_words.specs.Words.{Word, literal}
 use Rattle.script_shape.specs.declared.due.Due.{Due}
 use Rattle.script_shape.specs.declared.due.Due.TheVariants as d
 use Rattle.script_shape.specs.Roles.{Leaf}

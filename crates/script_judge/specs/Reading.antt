@@ -2,10 +2,10 @@
 use Rattle.std.specs.Prelude.{◌≡◌, ◌↔◌, ℕ, ◌+◌, ◌≤◌, ◌<◌, ◌^◌, List, length, take, map, get_or}
 use Rattle.std.specs.Prelude.{slice_get, Option, Some, None, Bool, if◌then◌else◌}
 use Rattle.std.specs.Str.{IsUtf8, IsValidUpTo}
-use Rattle.script_shape.specs.script_words.declared.lex.Token.{Token}
-use Rattle.script_shape.specs.script_words.Lex.{Lexes}
-use Rattle.script_shape.specs.script_words.Words.{Word}
-use Rattle.script_shape.specs.script_words.Named.{words_of, IsWordsOf}
+use Rattle.script_words.specs.declared.lex.Token.{Token}
+use Rattle.script_words.specs.Lex.{Lexes}
+use Rattle.script_words.specs.Words.{Word}
+use Rattle.script_words.specs.Named.{words_of, IsWordsOf}
 use Rattle.script_shape.specs.Tree.{IsScript}
 use Rattle.script_shape.specs.ShapeLaw.{IsShapeOf}
 use Rattle.script_shape.specs.Roles.{Leaf, HasRoles}

@@ -1,7 +1,8 @@
 -- The code's split ranges as those that definitions speak of.
 use Rattle.std.specs.Prelude.{map}
 use Rattle.std.specs.Option.{option_map}
-use Rattle.script_bounds.specs.dyadic.Values.{value_of}
+use Rattle.dyadic.specs.Values.{value_of}
+use Rattle.script_cases.specs.Mapped.{map_parts}
 use Rattle.script_judge.specs.declared.subject.Subject.{Subject as CodeSubject}
 use Rattle.script_judge.specs.declared.subject.Subject.TheVariants as code
 use Rattle.script_judge.specs.declared.subject.Alias.{Alias as CodeAlias}
@@ -9,7 +10,6 @@ use Rattle.script_judge.specs.declared.splits.Ends.{Ends as CodeEnds}
 use Rattle.script_judge.specs.declared.splits.SplitRange.{SplitRange as CodeRange}
 use Rattle.script_judge.specs.declared.splits.Splits.{Splits}
 use Rattle.script_judge.specs.Subject.{Subject, nothing, node_of, other, Alias}
-use Rattle.script_cases.specs.Mapped.{map_parts}
 use Rattle.script_judge.specs.Splits.{Ends, SplitRange, SplitsSeen}
 
 -- The code's subject, with its text as bytes.

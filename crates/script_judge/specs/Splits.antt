@@ -3,9 +3,9 @@ use Rattle.std.specs.Prelude.{◌&&◌, not, List, [], ◌∷◌, map, Option, S
 use Rattle.std.specs.Prelude.{if◌then◌else◌}
 use Rattle.std.specs.List.{list_any}
 use Rattle.std.specs.Str.{bytes_eq}
-use Rattle.script_bounds.specs.fx_model.Fraction.{Fraction}
-use Rattle.script_shape.specs.script_words.declared.class.Symbol.TheVariants as s
-use Rattle.script_shape.specs.script_words.Words.{Word, sign}
+use Rattle.fx_model.specs.Fraction.{Fraction}
+use Rattle.script_words.specs.declared.class.Symbol.TheVariants as s
+use Rattle.script_words.specs.Words.{Word, sign}
 use Rattle.script_shape.specs.declared.due.Due.{Due}
 use Rattle.script_shape.specs.declared.due.Due.TheVariants as d
 use Rattle.script_cases.specs.Cases.{cases}

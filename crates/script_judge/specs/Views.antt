@@ -1,16 +1,16 @@
 -- The code's values as those that definitions speak of.
 use Rattle.std.specs.Prelude.{◌≡◌, length, map, reverse}
 use Rattle.std.specs.Option.{option_copied}
-use Rattle.script_shape.specs.script_words.Named.{HasNames}
-use Rattle.script_shape.specs.script_words.Kept.{all_words, all_tokens}
+use Rattle.literal_order.specs.Values.{IsWritten}
+use Rattle.script_words.specs.Named.{HasNames}
+use Rattle.script_words.specs.Kept.{all_words, all_tokens}
+use Rattle.script_shape.specs.Roles.{leaves_of}
 use Rattle.script_judge.specs.declared.names.Names.{Names}
 use Rattle.script_judge.specs.declared.judge.Seen.{Seen as CodeSeen}
 use Rattle.script_judge.specs.declared.reading.ReadText.{ReadText}
-use Rattle.script_shape.specs.Roles.{leaves_of}
 use Rattle.script_judge.specs.Reading.{Reading}
 use Rattle.script_judge.specs.Names.{NamesSeen}
 use Rattle.script_judge.specs.Judge.{Seen}
-use Rattle.script_bounds.specs.literal_order.Values.{IsWritten}
 use Rattle.script_judge.specs.BoundViews.{bounds_of}
 use Rattle.script_judge.specs.SplitViews.{splits_seen}
 

@@ -2,17 +2,20 @@
 
 ghost use Rattle.std.specs.Prelude.{◌≡◌, ◌↔◌, Some};
 ghost use Rattle.std.specs.Option.{option_map};
-ghost use Rattle.script_bounds.specs.fx_model.Fraction.{Fraction};
-ghost use Rattle.script_shape.specs.script_words.Named.{word_of};
-ghost use Rattle.script_shape.specs.script_words.Kept.{words_in};
-ghost use Rattle.script_judge.specs.Bounds as spec;
+ghost use Rattle.fx_model.specs.Fraction.{Fraction};
+ghost use Rattle.literal_order.specs.Values.{written_value, IsWritten};
+ghost use Rattle.script_words.specs.Named.{word_of};
+ghost use Rattle.script_words.specs.Kept.{words_in};
 ghost use Rattle.script_shape.specs.Roles.{leaves_of};
-ghost use Rattle.script_bounds.specs.literal_order.Values.{written_value, IsWritten};
+ghost use Rattle.script_judge.specs.Bounds as spec;
 ghost use Rattle.script_judge.specs.BoundViews.{bounds_of};
 
-use script_bounds::{Written, is_too_low, read_number};
+use literal_order::Written;
+use script_bounds::{is_too_low, read_number};
 use script_shape::due::Due;
-use script_shape::{Symbol, Word, WordList};
+use script_words::class::Symbol;
+use script_words::words::Word;
+use script_words::list::WordList;
 
 fn word_number(negative: bool, word: Word<'_>) -> Option<Written>
     ensures normal { IsWritten result }

@@ -1,13 +1,14 @@
 //! What is counted token by token.
 
 ghost use Rattle.std.specs.Prelude.{◌≡◌, ◌≤◌, ◌<◌};
-ghost use Rattle.script_shape.specs.script_words.Named.{word_of};
-ghost use Rattle.script_shape.specs.script_words.Words as words;
+ghost use Rattle.script_words.specs.Named.{word_of};
+ghost use Rattle.script_words.specs.Words as words;
 ghost use Rattle.script_judge.specs.Counts as spec;
 ghost use Rattle.script_judge.specs.Limits.{IsWithinLimits};
 
 use script_shape::due::Due;
-use script_shape::{Symbol, Word};
+use script_words::class::Symbol;
+use script_words::words::Word;
 
 /// The part of a script that a token stands in.
 #[derive(Clone, Copy, Debug, PartialEq, Eq)]

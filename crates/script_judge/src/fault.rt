@@ -2,15 +2,17 @@
 
 ghost use Rattle.std.specs.Prelude.{◌≡◌, ◌≤◌, length, IfOk};
 ghost use Rattle.std.specs.Option.{option_map};
-ghost use Rattle.script_shape.specs.script_words.Named.{word_of};
-ghost use Rattle.script_shape.specs.script_words.Kept.{words_in};
+ghost use Rattle.script_words.specs.Named.{word_of};
+ghost use Rattle.script_words.specs.Kept.{words_in};
 ghost use Rattle.script_shape.specs.Roles.{leaves_of};
 ghost use Rattle.script_judge.specs.Fault as spec;
 
 use crate::refusal::RefusalKind;
 use script_shape::due::Due;
 use script_shape::shape::may_follow;
-use script_shape::{Class, Spelled, Symbol, Word, WordList};
+use script_words::class::{Class, Spelled, Symbol};
+use script_words::words::Word;
+use script_words::list::WordList;
 use std::alloc::{AllocError, Global};
 
 /// A refused word: its number, and why.

@@ -1,7 +1,7 @@
 //! The first refusal of a text.
 
 ghost use Rattle.std.specs.Prelude.{◌≡◌, ◌≤◌, length, Option, IfOk};
-ghost use Rattle.script_shape.specs.script_words.Kept.{all_words};
+ghost use Rattle.script_words.specs.Kept.{all_words};
 ghost use Rattle.script_judge.specs.declared.fault.Fault.{Fault};
 ghost use Rattle.script_judge.specs.First as spec;
 ghost use Rattle.script_judge.specs.First.{FaultsAreUnique, FirstsAreUnique};
@@ -13,7 +13,7 @@ ghost use Rattle.script_judge.specs.Views.{reading_of};
 use crate::judge::judge;
 use crate::reading::{ReadText, at_word, fault, read_as_script, text_refusal};
 use crate::refusal::{Refusal, RefusalKind};
-use script_shape::lexed_once;
+use script_words::lex::lexed_once;
 use script_shape::shape::{roles_are_unique, shape_is_unique};
 use std::alloc::{AllocError, Global};
 

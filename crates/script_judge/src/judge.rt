@@ -2,17 +2,17 @@
 
 ghost use Rattle.std.specs.Prelude.{◌≡◌, ◌≤◌, ◌<◌, ◌+◌, ◌∷◌, length, drop, map, IfOk, IfSome, OnOk};
 ghost use Rattle.std.specs.Option.{option_map};
+ghost use Rattle.literal_order.specs.Values.{IsWritten};
+ghost use Rattle.script_words.specs.Named.{word_of};
+ghost use Rattle.script_words.specs.Kept.{words_in};
+ghost use Rattle.script_shape.specs.Roles.{leaves_of};
 ghost use Rattle.script_cases.specs.Cases.{case_count};
 ghost use Rattle.script_cases.specs.Parts.{begun_cases};
 ghost use Rattle.script_judge.specs.Names.{split_name};
 ghost use Rattle.script_judge.specs.Splits.{ranges_at};
 ghost use Rattle.script_judge.specs.SplitViews.{ends_seen, splits_seen};
-ghost use Rattle.script_shape.specs.script_words.Named.{word_of};
-ghost use Rattle.script_shape.specs.script_words.Kept.{words_in};
-ghost use Rattle.script_shape.specs.Roles.{leaves_of};
 ghost use Rattle.script_judge.specs.Judge as spec;
 ghost use Rattle.script_judge.specs.Judge.{Judged};
-ghost use Rattle.script_bounds.specs.literal_order.Values.{IsWritten};
 ghost use Rattle.script_judge.specs.Limits.{IsWithinLimits};
 ghost use Rattle.script_judge.specs.BoundViews.{notes_of};
 ghost use Rattle.script_judge.specs.Views.{IsSeen};
@@ -28,7 +28,8 @@ use crate::refusal::RefusalKind;
 use crate::sides::{arrow_count, is_arrow, is_on_wrong_side, without};
 use crate::splits::{Ends, Splits, TokenReading, ends_between, is_rangeless};
 use script_shape::due::Due;
-use script_shape::{Word, WordList};
+use script_words::words::Word;
+use script_words::list::WordList;
 use std::alloc::{AllocError, Global};
 
 /// What stood before a token.

@@ -1,8 +1,6 @@
 //! Why a text is no script: the first refusal.
 #![tactic(auto)]
 
-// What callers name of the crates below.
-pub use script_shape::shape::{leaves_are_of_trees, roles_are_unique};
 
 mod bounds;
 mod counts;

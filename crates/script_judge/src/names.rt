@@ -2,8 +2,8 @@
 
 ghost use Rattle.std.specs.Prelude.{◌≡◌, length, OnOk};
 ghost use Rattle.std.specs.Option.{option_copied};
-ghost use Rattle.script_shape.specs.script_words.Named.{word_of};
-ghost use Rattle.script_shape.specs.script_words.Kept.{words_in};
+ghost use Rattle.script_words.specs.Named.{word_of};
+ghost use Rattle.script_words.specs.Kept.{words_in};
 ghost use Rattle.script_shape.specs.Roles.{leaves_of};
 ghost use Rattle.script_judge.specs.Names as spec;
 ghost use Rattle.script_judge.specs.Names.{NamesSeen};
@@ -11,7 +11,8 @@ ghost use Rattle.script_judge.specs.Views.{AreNames};
 
 use crate::sets::{add_some, halve, has, has_some, lacks_some};
 use script_shape::due::Due;
-use script_shape::{Word, WordList};
+use script_words::words::Word;
+use script_words::list::WordList;
 use std::alloc::{AllocError, Global};
 use std::collections::BTreeSet;
 

@@ -1,11 +1,12 @@
 //! What is open around a token.
 
 ghost use Rattle.std.specs.Prelude.{◌≡◌, reverse, OnOk};
-ghost use Rattle.script_shape.specs.script_words.Named.{word_of};
+ghost use Rattle.script_words.specs.Named.{word_of};
 ghost use Rattle.script_judge.specs.Nesting as spec;
 
 use script_shape::due::Due;
-use script_shape::{Symbol, Word};
+use script_words::class::Symbol;
+use script_words::words::Word;
 use std::alloc::AllocError;
 
 /// What is open.

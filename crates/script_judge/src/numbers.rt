@@ -2,19 +2,22 @@
 
 ghost use Rattle.std.specs.Prelude.{◌≡◌, ◌<◌, ◌==◌, nat_lt, IsTrue, ◌↔◌};
 ghost use Rattle.std.specs.Str.Parse.{digits_value};
-ghost use Rattle.script_bounds.specs.literal.Normal.{IsPastLimits};
-ghost use Rattle.script_shape.specs.script_words.Named.{word_of};
-ghost use Rattle.script_shape.specs.script_words.Kept.{words_in};
-ghost use Rattle.script_judge.specs.BoundViews.{notes_of};
+ghost use Rattle.literal.specs.Normal.{IsPastLimits};
+ghost use Rattle.literal_order.specs.Values.{IsWritten};
+ghost use Rattle.script_words.specs.Named.{word_of};
+ghost use Rattle.script_words.specs.Kept.{words_in};
 ghost use Rattle.script_shape.specs.Roles.{leaves_of};
-ghost use Rattle.script_bounds.specs.literal_order.Values.{IsWritten};
+ghost use Rattle.script_judge.specs.BoundViews.{notes_of};
 ghost use Rattle.script_judge.specs.Numbers as spec;
 ghost use Rattle.script_judge.specs.Sides.{has_arrow};
 
 use crate::bounds::bound_number;
-use script_bounds::{LiteralFault, Written, read_bytes};
+use literal::{LiteralFault, read_bytes};
+use literal_order::Written;
 use script_shape::due::Due;
-use script_shape::{Word, WordList, number_below};
+use script_words::words::Word;
+use script_words::list::WordList;
+use script_words::digits::number_below;
 
 /// Whether digits write a number above a limit.
 fn is_above(limit: u32, text: &[u8]) -> bool

@@ -1,7 +1,7 @@
 //! Reads a text as far as the grammar goes.
 
 ghost use Rattle.std.specs.Prelude.{◌≡◌, ◌≤◌, ◌<◌, ◌^◌, length, IfOk};
-ghost use Rattle.script_shape.specs.script_words.Kept.{words_in, tokens_in, all_words};
+ghost use Rattle.script_words.specs.Kept.{words_in, tokens_in, all_words};
 ghost use Rattle.script_judge.specs.Reading as spec;
 ghost use Rattle.script_judge.specs.Reading.{IsReadingOf, IsFaultOf, ReadsScripts};
 ghost use Rattle.script_judge.specs.Views.{reading_of};
@@ -9,7 +9,8 @@ ghost use Rattle.script_judge.specs.Views.{reading_of};
 use crate::fault::{Fault, fault_of};
 use crate::refusal::{LimitKind, Refusal, RefusalKind};
 use script_shape::shape::{Shape, roles_are_unique, shape_of};
-use script_shape::{WordList, Words, read_words};
+use script_words::list::{WordList, Words};
+use script_words::words::read_words;
 use std::alloc::{AllocError, Global};
 
 /// The greatest number of bytes of a text.

@@ -2,7 +2,7 @@
 
 ghost use Rattle.std.specs.Prelude.{◌≡◌, ◌∷◌, List, map, OnOk};
 ghost use Rattle.std.specs.Option.{option_copied};
-ghost use Rattle.script_shape.specs.script_words.Named.{HasNames};
+ghost use Rattle.script_words.specs.Named.{HasNames};
 ghost use Rattle.script_judge.specs.Names as spec;
 ghost use Rattle.script_judge.specs.Names.{Name};
 

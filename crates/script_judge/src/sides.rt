@@ -2,15 +2,17 @@
 //! hypothesis has.
 
 ghost use Rattle.std.specs.Prelude.{◌≡◌, ◌≤◌, ◌-◌, length};
-ghost use Rattle.script_shape.specs.script_words.Named.{word_of};
-ghost use Rattle.script_shape.specs.script_words.Kept.{words_in};
+ghost use Rattle.script_words.specs.Named.{word_of};
+ghost use Rattle.script_words.specs.Kept.{words_in};
+ghost use Rattle.script_shape.specs.Roles.{leaves_of};
 ghost use Rattle.script_judge.specs.Counts.{one_if};
 ghost use Rattle.script_judge.specs.Judge as spec;
 ghost use Rattle.script_judge.specs.Sides.{is_bound_sign};
-ghost use Rattle.script_shape.specs.Roles.{leaves_of};
 
 use script_shape::due::Due;
-use script_shape::{Symbol, Word, WordList};
+use script_words::class::Symbol;
+use script_words::words::Word;
+use script_words::list::WordList;
 
 /// Whether it is a `->` of the formula.
 pub fn is_arrow(role: Due, word: Word<'_>) -> bool

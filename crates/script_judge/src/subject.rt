@@ -2,12 +2,13 @@
 
 ghost use Rattle.std.specs.Prelude.{◌≡◌, map, OnOk};
 ghost use Rattle.std.specs.Option.{option_copied};
-ghost use Rattle.script_shape.specs.script_words.Named.{word_of};
+ghost use Rattle.script_words.specs.Named.{word_of};
 ghost use Rattle.script_judge.specs.SplitViews.{subject_seen, alias_seen};
 ghost use Rattle.script_judge.specs.Subject as spec;
 
 use script_shape::due::Due;
-use script_shape::{Symbol, Word};
+use script_words::class::Symbol;
+use script_words::words::Word;
 use std::alloc::AllocError;
 
 /// What an expression is so far.

@@ -6,8 +6,8 @@ use Rattle.fx_model.specs.Fraction.{Fraction, ◌≤ℚ◌, le_refl, le_antisymm
 use Rattle.fx_model.specs.Expression.{Assignment, IsOrdered}
 use Rattle.fx_model.specs.declared.Node.{Node}
 use Rattle.poly_normal.specs.Mark.{EqualFormsHaveEqualValues}
-use Rattle.script_grammar.specs.script_hints.declared.hint.Hint.{Hint}
-use Rattle.script_grammar.specs.script_hints.Meets.{MeetsHint, MetSidesAreEqual}
+use Rattle.script_hints.specs.declared.hint.Hint.{Hint}
+use Rattle.script_hints.specs.Meets.{MeetsHint, MetSidesAreEqual}
 use Rattle.script_grammar.specs.Names.{HintIsOf}
 use Rattle.script_meets.specs.Meets.{IsAssumed, HasEqualSides, HintsAreMet, NeedsGiveEqualSides}
 

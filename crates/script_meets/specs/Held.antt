@@ -1,11 +1,11 @@
 -- What lines say of an assignment.
 use Rattle.std.specs.Prelude.{◌≡◌, ℕ, List, Some, slice_get}
 use Rattle.fx_model.specs.Expression.{Assignment}
-use Rattle.script_grammar.specs.script_claims.goals.declared.line.Line.{Line}
-use Rattle.script_grammar.specs.script_claims.goals.Holds.{LineHolds}
-use Rattle.script_grammar.specs.script_claims.declared.claim.Claim.{Claim}
-use Rattle.script_grammar.specs.script_claims.Facts.{slot_of}
-use Rattle.script_grammar.specs.script_claims.Meets.{IsTrueAt}
+use Rattle.goals.specs.declared.line.Line.{Line}
+use Rattle.goals.specs.Holds.{LineHolds}
+use Rattle.script_claims.specs.declared.claim.Claim.{Claim}
+use Rattle.script_claims.specs.Facts.{slot_of}
+use Rattle.script_claims.specs.Meets.{IsTrueAt}
 use Rattle.script_grammar.specs.Spells.{View}
 
 -- Each goal has a line in its place, which holds of the assignment; and the goal is true, with

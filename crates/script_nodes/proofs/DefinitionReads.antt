@@ -1,16 +1,17 @@
 -- The words of definitions are read as their trees.
 use Rattle.std.proofs.Common.{◌≡◌, List, [], ◌∷◌, ◌++◌, Option, Some, None, refl, sym, ap, ◌∙◌}
 use Rattle.std.proofs.Common.{append_assoc, append-nil}
-use Rattle.expr_dag.specs.fx_model.declared.Rounding.{Rounding}
-use Rattle.script_shape.specs.script_words.declared.class.Symbol.TheVariants as s
-use Rattle.script_shape.specs.script_words.declared.class.Spelled.TheVariants as spelled
-use Rattle.script_shape.specs.script_words.Words.{Word, sign}
+use Rattle.fx_model.specs.declared.Rounding.{Rounding}
+use Rattle.script_words.specs.declared.class.Symbol.TheVariants as s
+use Rattle.script_words.specs.declared.class.Spelled.TheVariants as spelled
+use Rattle.script_words.specs.Words.{Word, sign}
 use Rattle.script_shape.specs.declared.due.Due.{Due}
 use Rattle.script_shape.specs.declared.due.Due.TheVariants as d
-use Rattle.script_shape.specs.Tree.{AnyName, plain, operator, Special, free, defined, Operator}
-use Rattle.script_shape.specs.Tree.{fixed, int, Expr, How, exactly, rounded_by, rounded_apart}
-use Rattle.script_shape.specs.Tree.{rounded_joined, Definition, names_operator, names_value, Script}
-use Rattle.script_shape.specs.Tree.{formula, define}
+use Rattle.script_shape.specs.Expressions.{AnyName, plain, operator, Special, free, defined}
+use Rattle.script_shape.specs.Expressions.{Operator, fixed, int, Expr}
+use Rattle.script_shape.specs.Tree.{How, exactly, rounded_by, rounded_apart, rounded_joined}
+use Rattle.script_shape.specs.Tree.{Definition, names_operator, names_value, Script, formula}
+use Rattle.script_shape.specs.Tree.{define}
 use Rattle.script_shape.specs.Roles.{Leaf, at, special_leaves, name_leaves, operator_leaves}
 use Rattle.script_shape.specs.Roles.{expr_leaves, how_leaves, definition_leaves, script_leaves}
 use Rattle.script_shape.specs.Inner.{EachRole, IsInner, expr_inner, operator_rest, operator_inner}

@@ -3,8 +3,8 @@ use Rattle.std.proofs.Common.{◌≡◌, ◌<◌, List, [], ◌∷◌, length, O
 use Rattle.std.proofs.Common.{false, if◌then◌else◌, sym, ap, subst, ◌∙◌, Result, Ok, Err, OnOk}
 use Rattle.std.proofs.Common.{OnErr}
 use Rattle.std.specs.Str.{bytes_eq}
-use Rattle.expr_dag.specs.fx_model.declared.Rounding.{Rounding}
-use Rattle.expr_dag.specs.fx_model.declared.ExprId.{ExprId}
+use Rattle.fx_model.specs.declared.Rounding.{Rounding}
+use Rattle.fx_model.specs.declared.ExprId.{ExprId}
 use Rattle.script_nodes.specs.Known.{Name, entry_of, with_entry, or_none, operator_named}
 use Rattle.script_nodes.specs.Waits.{Reading}
 use Rattle.script_nodes.specs.Sound.{ValuesFit, OperatorsFit, IsInRange, IsSound}

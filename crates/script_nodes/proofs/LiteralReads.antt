@@ -1,11 +1,11 @@
 -- The literal of a text is what the text is read as.
 use Rattle.std.proofs.Common.{◌≡◌, ℕ, List, Bool, true, false, Result, Err, ◌↔◌, refl, ap, sym}
 use Rattle.std.proofs.Common.{subst, ◌∙◌, if◌then◌else◌}
-use Rattle.expr_dag.specs.literal.declared.reading.LiteralFault.{LiteralFault}
-use Rattle.expr_dag.specs.literal.declared.reading.LiteralFault.TheVariants as fault
-use Rattle.expr_dag.specs.fx_model.declared.Literal.{Literal}
-use Rattle.expr_dag.specs.literal.Spelling.{Spelling, Spells, IsLiteral, written, IsWithin}
-use Rattle.expr_dag.specs.literal.Normal.{nought, IsPastLimits}
+use Rattle.fx_model.specs.declared.Literal.{Literal}
+use Rattle.literal.specs.declared.reading.LiteralFault.{LiteralFault}
+use Rattle.literal.specs.declared.reading.LiteralFault.TheVariants as fault
+use Rattle.literal.specs.Spelling.{Spelling, Spells, IsLiteral, written, IsWithin}
+use Rattle.literal.specs.Normal.{nought, IsPastLimits}
 use Rattle.script_nodes.specs.Literals.{parts_of, normal_of, is_read_as, literal_of, ReadsLiterals}
 use Rattle.script_nodes.proofs.Spelled.{spelled}
 use Rattle.script_nodes.proofs.NormalOnce.{normal_is}

@@ -2,8 +2,8 @@
 use Rattle.std.proofs.Common.{◌≡◌, ◌⊎◌, ℕ, List, Bool, true, false, inl, inr, refl, ap, sym, subst}
 use Rattle.std.proofs.Common.{◌∙◌, if◌then◌else◌, true≢false}
 use Rattle.std.specs.Bool.{Decides}
-use Rattle.expr_dag.specs.literal.Spelling.{Spelling, Spells, IsLiteral, written, IsWithin}
-use Rattle.expr_dag.specs.literal.Normal.{nought, IsReading, IsPastLimits}
+use Rattle.literal.specs.Spelling.{Spelling, Spells, IsLiteral, written, IsWithin}
+use Rattle.literal.specs.Normal.{nought, IsReading, IsPastLimits}
 use Rattle.script_nodes.specs.Literals.{parts_of, normal_of, is_read_as, literal_of}
 use Rattle.script_nodes.specs.Literals.{LiteralsAreTold, LiteralsAreTested, SpelledOnce}
 use Rattle.script_nodes.proofs.LiteralReads.{parts_are}

@@ -1,6 +1,6 @@
 -- What a name stands for.
 use Rattle.std.proofs.Common.{◌≡◌, ◌<◌, length, Option, None, Result, IfOk, ap, subst}
-use Rattle.expr_dag.specs.fx_model.declared.ExprId.{ExprId}
+use Rattle.fx_model.specs.declared.ExprId.{ExprId}
 use Rattle.expr_dag.specs.declared.dag.DagFault.{DagFault}
 use Rattle.script_nodes.specs.Known.{Name, Known, PlacedNode, entry_of, variable_put, name_put}
 use Rattle.script_nodes.specs.Known.{named}

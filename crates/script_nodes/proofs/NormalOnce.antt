@@ -6,19 +6,19 @@ use Rattle.std.proofs.Common.{eq-eqb, true≢false, Option}
 use Rattle.std.proofs.lemmas.Int.{ints, by_lt_z}
 use Rattle.std.proofs.Math.Nat.{pow-succ'}
 use Rattle.std.specs.Str.Parse.{IsNumeral, digits_value}
-use Rattle.expr_dag.specs.fx_model.Fraction.{Fraction, ◌*ℚ◌, ◌≤ℚ◌, ◌<ℚ◌, zero_ℚ, le_refl}
-use Rattle.expr_dag.specs.fx_model.Fraction.{mul_cancel, mul_comm, lt_by, lt_not, lt_le, inverse_ℚ}
-use Rattle.expr_dag.specs.fx_model.Fraction.{mul-inverse, mul-le, zero-mul, one_ℚ}
-use Rattle.expr_dag.specs.fx_model.Powers.{whole, two_to, whole-le_out, two_to-positive, one-whole}
-use Rattle.expr_dag.specs.fx_model.Cut.Gaps.{gap_le}
-use Rattle.expr_dag.specs.fx_model.Expression.{literal_value, ten_to}
-use Rattle.expr_dag.specs.fx_model.declared.Literal.{Literal}
-use Rattle.expr_dag.specs.literal.declared.scan.Form.{Form}
-use Rattle.expr_dag.specs.literal.declared.scan.Form.TheVariants.{Decimal, Binary, Hexadecimal}
-use Rattle.expr_dag.specs.literal.Spelling.{Exponent, base, is_hexadecimal, written_as, IsWithinAs}
-use Rattle.expr_dag.specs.literal.Normal.{nought, IsReduced, IsNormalOf}
-use Rattle.expr_dag.specs.literal.Tens.{decimal, binary, tens_moved, twos_moved, whole_positive}
-use Rattle.expr_dag.specs.literal.Tens.{not_zero, pow_positive, few_digits, zero_value}
+use Rattle.fx_model.specs.Fraction.{Fraction, ◌*ℚ◌, ◌≤ℚ◌, ◌<ℚ◌, zero_ℚ, le_refl, mul_cancel}
+use Rattle.fx_model.specs.Fraction.{mul_comm, lt_by, lt_not, lt_le, inverse_ℚ, mul-inverse, mul-le}
+use Rattle.fx_model.specs.Fraction.{zero-mul, one_ℚ}
+use Rattle.fx_model.specs.Powers.{whole, two_to, whole-le_out, two_to-positive, one-whole}
+use Rattle.fx_model.specs.Cut.Gaps.{gap_le}
+use Rattle.fx_model.specs.Expression.{literal_value, ten_to}
+use Rattle.fx_model.specs.declared.Literal.{Literal}
+use Rattle.literal.specs.declared.scan.Form.{Form}
+use Rattle.literal.specs.declared.scan.Form.TheVariants.{Decimal, Binary, Hexadecimal}
+use Rattle.literal.specs.Spelling.{Exponent, base, is_hexadecimal, written_as, IsWithinAs}
+use Rattle.literal.specs.Normal.{nought, IsReduced, IsNormalOf}
+use Rattle.literal.specs.Tens.{decimal, binary, tens_moved, twos_moved, whole_positive, not_zero}
+use Rattle.literal.specs.Tens.{pow_positive, few_digits, zero_value}
 use Rattle.script_nodes.specs.Literals.{tens_out, twos_out, normal_of}
 
 -- ---- powers of ten aren't 0

@@ -1,14 +1,14 @@
 -- A list that is full at an operand.
 use Rattle.std.proofs.Common.{◌≡◌, ◌<◌, Option, arith, subst, sym}
 use Rattle.std.specs.Borrow.{Bor}
-use Rattle.expr_dag.specs.fx_model.declared.Rounding.{Rounding}
-use Rattle.expr_dag.specs.fx_model.declared.Literal.{Literal}
-use Rattle.expr_dag.specs.fx_model.declared.Node.TheVariants.{Lit}
-use Rattle.script_shape.specs.script_words.declared.class.Number.{Number}
-use Rattle.script_shape.specs.script_words.declared.class.Spelled.{Spelled}
-use Rattle.script_shape.specs.script_words.declared.words.Word.{Word as CodeWord}
-use Rattle.script_shape.specs.script_words.declared.words.Word.TheVariants as code
-use Rattle.script_shape.specs.script_words.Named.{word_of}
+use Rattle.fx_model.specs.declared.Rounding.{Rounding}
+use Rattle.fx_model.specs.declared.Literal.{Literal}
+use Rattle.fx_model.specs.declared.Node.TheVariants.{Lit}
+use Rattle.script_words.specs.declared.class.Number.{Number}
+use Rattle.script_words.specs.declared.class.Spelled.{Spelled}
+use Rattle.script_words.specs.declared.words.Word.{Word as CodeWord}
+use Rattle.script_words.specs.declared.words.Word.TheVariants as code
+use Rattle.script_words.specs.Named.{word_of}
 use Rattle.script_nodes.specs.Literals.{literal_of}
 use Rattle.script_nodes.specs.Known.{Name, put, named}
 use Rattle.script_nodes.specs.Waits.{Reading, operand}

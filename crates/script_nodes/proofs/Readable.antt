@@ -9,12 +9,12 @@ use Rattle.std.specs.Str.Parse.{AllDigits, IsNumeral}
 use Rattle.std.proofs.lemmas.Bool.Decides.{Decides-ltb}
 use Rattle.std.proofs.lemmas.Slice.Eq.{bytes_eq-Decides}
 use Rattle.std.proofs.lemmas.Int.{ints}
-use Rattle.expr_dag.specs.fx_model.declared.Literal.{Literal}
-use Rattle.expr_dag.specs.literal.declared.scan.Form.{Form}
-use Rattle.expr_dag.specs.literal.declared.scan.Form.TheVariants.{Decimal, Binary, Hexadecimal}
-use Rattle.expr_dag.specs.literal.Spelling.{Exponent, Spelling, base, is_hexadecimal}
-use Rattle.expr_dag.specs.literal.Spelling.{spelling_bytes, written, IsFraction, IsExponent, Spells}
-use Rattle.expr_dag.specs.literal.Spelling.{IsBetween, IsWithinAs, IsWithin}
+use Rattle.fx_model.specs.declared.Literal.{Literal}
+use Rattle.literal.specs.declared.scan.Form.{Form}
+use Rattle.literal.specs.declared.scan.Form.TheVariants.{Decimal, Binary, Hexadecimal}
+use Rattle.literal.specs.Spelling.{Exponent, Spelling, base, is_hexadecimal, spelling_bytes}
+use Rattle.literal.specs.Spelling.{written, IsFraction, IsExponent, Spells, IsBetween, IsWithinAs}
+use Rattle.literal.specs.Spelling.{IsWithin}
 use Rattle.script_nodes.specs.Literals.{all_digits, is_numeral, is_fraction, is_exponent}
 use Rattle.script_nodes.specs.Literals.{is_between, is_within, is_read_as}
 

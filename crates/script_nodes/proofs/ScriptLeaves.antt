@@ -1,9 +1,9 @@
 -- Words of a script with roles are the leaves of its tree.
 use Rattle.std.proofs.Common.{◌≡◌, List, Result, Ok, Err, IfOk, ap, ◌∙◌}
-use Rattle.script_shape.specs.script_words.Words.{Word}
+use Rattle.expr_dag.specs.declared.dag.DagFault.{DagFault}
+use Rattle.script_words.specs.Words.{Word}
 use Rattle.script_shape.specs.Tree.{Script, script_words}
 use Rattle.script_shape.specs.Roles.{Leaf, HasRoles, LeavesAreOfTrees}
-use Rattle.expr_dag.specs.declared.dag.DagFault.{DagFault}
 use Rattle.script_nodes.specs.Known.{nothing_known}
 use Rattle.script_nodes.specs.Definitions.{definitions_value}
 use Rattle.script_nodes.specs.Defining.{Defining, between, read_from_start}

@@ -4,15 +4,15 @@ use Rattle.std.proofs.Common.{true, false, refl, ap, ◌∙◌, arith, lt-ltb, l
 use Rattle.std.proofs.Common.{eqb-true}
 use Rattle.std.specs.Char.{digit_value}
 use Rattle.std.specs.Str.Parse.{AllDigits, IsNumeral}
-use Rattle.expr_dag.specs.literal.declared.scan.Form.{Form}
-use Rattle.expr_dag.specs.literal.declared.scan.Form.TheVariants.{Decimal, Binary, Hexadecimal}
-use Rattle.expr_dag.specs.literal.declared.scan.Mark.{Mark}
-use Rattle.expr_dag.specs.literal.declared.scan.Mark.TheVariants.{Unmarked, Plus, Minus}
-use Rattle.expr_dag.specs.literal.Spelling.{Exponent, Spelling, base, is_hexadecimal, mark_bytes}
-use Rattle.expr_dag.specs.literal.Spelling.{point_bytes, scale_bytes, body_bytes, spelling_bytes}
-use Rattle.expr_dag.specs.literal.Spelling.{IsFraction, IsExponent, IsSpelling}
-use Rattle.expr_dag.specs.literal.Parts.{IsNoDigitFirst}
-use Rattle.expr_dag.specs.literal.Tails.{tail_ends, scale_ends}
+use Rattle.literal.specs.declared.scan.Form.{Form}
+use Rattle.literal.specs.declared.scan.Form.TheVariants.{Decimal, Binary, Hexadecimal}
+use Rattle.literal.specs.declared.scan.Mark.{Mark}
+use Rattle.literal.specs.declared.scan.Mark.TheVariants.{Unmarked, Plus, Minus}
+use Rattle.literal.specs.Spelling.{Exponent, Spelling, base, is_hexadecimal, mark_bytes}
+use Rattle.literal.specs.Spelling.{point_bytes, scale_bytes, body_bytes, spelling_bytes, IsFraction}
+use Rattle.literal.specs.Spelling.{IsExponent, IsSpelling}
+use Rattle.literal.specs.Parts.{IsNoDigitFirst}
+use Rattle.literal.specs.Tails.{tail_ends, scale_ends}
 use Rattle.script_nodes.specs.Literals.{front, behind, fraction_at, behind_fraction, exponent_at}
 use Rattle.script_nodes.specs.Literals.{scale_at, form_at, opens_hexadecimal, without_opening}
 use Rattle.script_nodes.specs.Literals.{parts_as, parts_of}

@@ -1,15 +1,16 @@
 -- The words of an expression are read as its tree.
 use Rattle.std.proofs.Common.{◌≡◌, List, [], ◌∷◌, ◌++◌, Option, Some, refl, ap, ◌∙◌, append_assoc}
-use Rattle.expr_dag.specs.fx_model.declared.Rounding.{Rounding}
-use Rattle.expr_dag.specs.fx_model.declared.ExprId.{ExprId}
-use Rattle.script_shape.specs.script_words.declared.class.Symbol.TheVariants as s
-use Rattle.script_shape.specs.script_words.Words.{sign}
+use Rattle.fx_model.specs.declared.Rounding.{Rounding}
+use Rattle.fx_model.specs.declared.ExprId.{ExprId}
+use Rattle.script_words.specs.declared.class.Symbol.TheVariants as s
+use Rattle.script_words.specs.Words.{sign}
+use Rattle.script_words.specs.declared.class.Spelled.TheVariants as spelled
 use Rattle.script_shape.specs.declared.due.Due.TheVariants as d
-use Rattle.script_shape.specs.script_words.declared.class.Spelled.TheVariants as spelled
-use Rattle.script_shape.specs.Tree.{Special, free, defined, Whole, natural, opposite, zero_alone}
-use Rattle.script_shape.specs.Tree.{digits, Operator, fixed, int, Expr, term, sum, difference, Term}
-use Rattle.script_shape.specs.Tree.{factor, product, quotient, Factor, negation, atom, Atom, number}
-use Rattle.script_shape.specs.Tree.{variable, parenthesized, absolute, called, rounded, fused}
+use Rattle.script_shape.specs.Expressions.{Special, free, defined, Whole, natural, opposite}
+use Rattle.script_shape.specs.Expressions.{zero_alone, digits, Operator, fixed, int, Expr, term}
+use Rattle.script_shape.specs.Expressions.{sum, difference, Term, factor, product, quotient, Factor}
+use Rattle.script_shape.specs.Expressions.{negation, atom, Atom, number, variable, parenthesized}
+use Rattle.script_shape.specs.Expressions.{absolute, called, rounded, fused}
 use Rattle.script_shape.specs.Roles.{Leaf, at, special_leaves, whole_leaves, operator_leaves}
 use Rattle.script_shape.specs.Roles.{expr_leaves, term_leaves, factor_leaves, atom_leaves}
 use Rattle.script_nodes.specs.Known.{Known, PlacedNode, no_rounding, operator_named}

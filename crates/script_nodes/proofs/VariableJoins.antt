@@ -5,9 +5,9 @@ use Rattle.std.proofs.Common.{if◌then◌else◌, refl, sym, ap, subst, ◌∙�
 use Rattle.std.proofs.Common.{length-append}
 use Rattle.std.specs.List.{list_any, position_or_len}
 use Rattle.std.specs.Str.{bytes_eq}
-use Rattle.expr_dag.specs.fx_model.declared.ExprId.{ExprId}
-use Rattle.expr_dag.specs.fx_model.declared.Node.{Node}
-use Rattle.expr_dag.specs.fx_model.declared.Node.TheVariants.{Var}
+use Rattle.fx_model.specs.declared.ExprId.{ExprId}
+use Rattle.fx_model.specs.declared.Node.{Node}
+use Rattle.fx_model.specs.declared.Node.TheVariants.{Var}
 use Rattle.expr_dag.specs.Nodes.{IsAt, IsFull, IsPlaced, IsFound, IsLast, place_of, placed}
 use Rattle.expr_dag.specs.Nodes.{with_node}
 use Rattle.script_nodes.specs.Known.{Name, Known, PlacedNode, put, variable_put, variables_with}

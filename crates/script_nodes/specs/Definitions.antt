@@ -1,9 +1,10 @@
 -- What definitions add to what is known, by recursion on their trees.
 use Rattle.std.specs.Prelude.{Option, Some, None}
-use Rattle.expr_dag.specs.fx_model.declared.Rounding.{Rounding}
-use Rattle.script_shape.specs.Tree.{AnyName, plain, operator, How, exactly, rounded_by}
-use Rattle.script_shape.specs.Tree.{rounded_apart, rounded_joined, Definition, names_operator}
-use Rattle.script_shape.specs.Tree.{names_value, Script, formula, define}
+use Rattle.fx_model.specs.declared.Rounding.{Rounding}
+use Rattle.script_shape.specs.Expressions.{AnyName, plain, operator}
+use Rattle.script_shape.specs.Tree.{How, exactly, rounded_by, rounded_apart, rounded_joined}
+use Rattle.script_shape.specs.Tree.{Definition, names_operator, names_value, Script, formula}
+use Rattle.script_shape.specs.Tree.{define}
 use Rattle.script_nodes.specs.Operators.{rounding_of}
 use Rattle.script_nodes.specs.Known.{Name, Known, PlacedNode, with_entry, operator_named}
 use Rattle.script_nodes.specs.Values.{expr_value}

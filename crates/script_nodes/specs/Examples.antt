@@ -1,17 +1,17 @@
 -- Nodes of small scripts, worked out by hand.
 use Rattle.std.specs.Prelude.{◌≡◌, ℕ, pos, negsuc, codes, List, [], ◌∷◌, Option, Some, None, refl}
-use Rattle.expr_dag.specs.fx_model.declared.Direction.TheVariants.{Dn}
-use Rattle.expr_dag.specs.fx_model.declared.Rounding.{Rounding}
-use Rattle.expr_dag.specs.fx_model.declared.ExprId.{ExprId}
-use Rattle.expr_dag.specs.fx_model.declared.Node.{Node}
-use Rattle.expr_dag.specs.fx_model.declared.Node.TheVariants.{Var, Lit, Neg, Add, Sub, Mul, Div}
-use Rattle.expr_dag.specs.fx_model.declared.Node.TheVariants.{Abs, Round}
-use Rattle.script_shape.specs.script_words.declared.class.Spelled.TheVariants.{Plain}
-use Rattle.script_shape.specs.script_words.declared.class.Number.TheVariants.{Digits, Other}
-use Rattle.script_shape.specs.Tree.{Expr, term, sum, difference, Term, factor, product, quotient}
-use Rattle.script_shape.specs.Tree.{negation, atom, Atom, number, variable, absolute, rounded}
-use Rattle.script_shape.specs.Tree.{fused, free, digits, opposite, fixed, int, plain, exactly}
-use Rattle.script_shape.specs.Tree.{rounded_joined, names_value}
+use Rattle.fx_model.specs.declared.Direction.TheVariants.{Dn}
+use Rattle.fx_model.specs.declared.Rounding.{Rounding}
+use Rattle.fx_model.specs.declared.ExprId.{ExprId}
+use Rattle.fx_model.specs.declared.Node.{Node}
+use Rattle.fx_model.specs.declared.Node.TheVariants.{Var, Lit, Neg, Add, Sub, Mul, Div, Abs, Round}
+use Rattle.script_words.specs.declared.class.Spelled.TheVariants.{Plain}
+use Rattle.script_words.specs.declared.class.Number.TheVariants.{Digits, Other}
+use Rattle.script_shape.specs.Expressions.{Expr, term, sum, difference, Term, factor, product}
+use Rattle.script_shape.specs.Expressions.{quotient, negation, atom, Atom, number, variable}
+use Rattle.script_shape.specs.Expressions.{absolute, rounded, fused, free, digits, opposite, fixed}
+use Rattle.script_shape.specs.Expressions.{int, plain}
+use Rattle.script_shape.specs.Tree.{exactly, rounded_joined, names_value}
 use Rattle.script_nodes.specs.Literals.{parts_of, tens_out, twos_out, literal_of}
 use Rattle.script_nodes.specs.Operators.{direction_of, number_of}
 use Rattle.script_nodes.specs.Known.{nothing_known, put, variable_put, named}

@@ -1,7 +1,7 @@
 -- Nodes never go: behind a word there are as many as before it, or more.
 use Rattle.std.specs.Prelude.{ℕ, ◌≤◌, List, length, Option, IfSome}
-use Rattle.expr_dag.specs.fx_model.declared.Rounding.{Rounding}
-use Rattle.script_shape.specs.script_words.Words.{Word}
+use Rattle.fx_model.specs.declared.Rounding.{Rounding}
+use Rattle.script_words.specs.Words.{Word}
 use Rattle.script_shape.specs.declared.due.Due.{Due}
 use Rattle.script_nodes.specs.declared.waits.Waits.{Waits}
 use Rattle.script_nodes.specs.Known.{Name, Known, named}

@@ -2,8 +2,8 @@
 use Rattle.std.proofs.Common.{ℕ, ◌<◌, ◌≤◌, List, [], ◌∷◌, length, Option, Some, None, IfSome, Bool}
 use Rattle.std.proofs.Common.{true, false, if◌then◌else◌, arith, length-append, le_refl}
 use Rattle.std.specs.Str.{bytes_eq}
-use Rattle.expr_dag.specs.fx_model.declared.ExprId.{ExprId}
-use Rattle.expr_dag.specs.fx_model.declared.Node.{Node}
+use Rattle.fx_model.specs.declared.ExprId.{ExprId}
+use Rattle.fx_model.specs.declared.Node.{Node}
 use Rattle.expr_dag.specs.Nodes.{place_of, placed}
 use Rattle.script_nodes.specs.Known.{Name, Known, put, entry_of, with_entry}
 use Rattle.script_nodes.specs.Sound.{ValuesFit}

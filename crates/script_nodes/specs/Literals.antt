@@ -5,13 +5,13 @@ use Rattle.std.specs.Prelude.{None, Bool, true, false, if◌then◌else◌}
 use Rattle.std.specs.Bool.{Decides}
 use Rattle.std.specs.Char.{digit_value}
 use Rattle.std.specs.Str.{bytes_eq}
-use Rattle.expr_dag.specs.fx_model.declared.Literal.{Literal}
-use Rattle.expr_dag.specs.literal.declared.scan.Form.{Form}
-use Rattle.expr_dag.specs.literal.declared.scan.Form.TheVariants.{Decimal, Binary, Hexadecimal}
-use Rattle.expr_dag.specs.literal.declared.scan.Mark.TheVariants.{Unmarked, Plus, Minus}
-use Rattle.expr_dag.specs.literal.Spelling.{Exponent, Spelling, Spells, IsLiteral, base}
-use Rattle.expr_dag.specs.literal.Spelling.{is_hexadecimal, spelling_bytes, written}
-use Rattle.expr_dag.specs.literal.Normal.{nought, IsReading, IsPastLimits}
+use Rattle.fx_model.specs.declared.Literal.{Literal}
+use Rattle.literal.specs.declared.scan.Form.{Form}
+use Rattle.literal.specs.declared.scan.Form.TheVariants.{Decimal, Binary, Hexadecimal}
+use Rattle.literal.specs.declared.scan.Mark.TheVariants.{Unmarked, Plus, Minus}
+use Rattle.literal.specs.Spelling.{Exponent, Spelling, Spells, IsLiteral, base, is_hexadecimal}
+use Rattle.literal.specs.Spelling.{spelling_bytes, written}
+use Rattle.literal.specs.Normal.{nought, IsReading, IsPastLimits}
 
 -- ---- parts
 

@@ -1,8 +1,8 @@
 -- What the words of a written operator make of what waits: its least significant bit, its
 -- direction, and its end.
 use Rattle.std.specs.Prelude.{pos, neg_ℤ, List, ◌∷◌}
-use Rattle.expr_dag.specs.fx_model.declared.Rounding.{Rounding}
-use Rattle.script_shape.specs.script_words.Words.{Word, name, rounding, literal}
+use Rattle.fx_model.specs.declared.Rounding.{Rounding}
+use Rattle.script_words.specs.Words.{Word, name, rounding, literal}
 use Rattle.script_nodes.specs.declared.waits.Waits.{Waits}
 use Rattle.script_nodes.specs.declared.waits.Waits.TheVariants as wait
 use Rattle.script_nodes.specs.Operators.{direction_of, number_of}

@@ -2,12 +2,12 @@
 use Rattle.std.specs.Prelude.{ℕ, ℤ, pos, neg_ℤ, codes, List, if◌then◌else◌, nat_lt}
 use Rattle.std.specs.Str.{bytes_eq}
 use Rattle.std.specs.Str.Parse.{digits_value}
-use Rattle.expr_dag.specs.fx_model.declared.Direction.{Direction}
-use Rattle.expr_dag.specs.fx_model.declared.Direction.TheVariants.{Zr, Aw, Dn, Up, Od, Ne, No, Nz}
-use Rattle.expr_dag.specs.fx_model.declared.Direction.TheVariants.{Na, Nd, Nu}
-use Rattle.expr_dag.specs.fx_model.declared.Rounding.{Rounding}
-use Rattle.script_shape.specs.Tree.{Special, free, defined, Digits, zero_alone, digits, Whole}
-use Rattle.script_shape.specs.Tree.{natural, opposite, Operator, fixed, int}
+use Rattle.fx_model.specs.declared.Direction.{Direction}
+use Rattle.fx_model.specs.declared.Direction.TheVariants.{Zr, Aw, Dn, Up, Od, Ne, No, Nz, Na, Nd}
+use Rattle.fx_model.specs.declared.Direction.TheVariants.{Nu}
+use Rattle.fx_model.specs.declared.Rounding.{Rounding}
+use Rattle.script_shape.specs.Expressions.{Special, free, defined, Digits, zero_alone, digits}
+use Rattle.script_shape.specs.Expressions.{Whole, natural, opposite, Operator, fixed, int}
 
 -- the direction of a word: `zr aw dn up od ne no nz na nd`, else `nu`
 unfoldable pub direction_of : List ℕ → Direction

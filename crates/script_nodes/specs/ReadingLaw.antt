@@ -1,7 +1,7 @@
 -- Reading the words of an expression from the left gives the nodes and the number of its tree.
 use Rattle.std.specs.Prelude.{◌≡◌, List, [], ◌++◌, Option, Some}
-use Rattle.expr_dag.specs.fx_model.declared.Rounding.{Rounding}
-use Rattle.script_shape.specs.Tree.{Expr}
+use Rattle.fx_model.specs.declared.Rounding.{Rounding}
+use Rattle.script_shape.specs.Expressions.{Expr}
 use Rattle.script_shape.specs.Roles.{Leaf, expr_leaves}
 use Rattle.script_nodes.specs.Known.{Known}
 use Rattle.script_nodes.specs.Values.{expr_value}

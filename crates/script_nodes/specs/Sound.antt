@@ -1,11 +1,11 @@
 -- What every reading keeps: its numbers are those of nodes, its roundings are within their limits,
 -- and its nodes name the variables that there are.
 use Rattle.std.specs.Prelude.{ℕ, ◌<◌, ◌≤◌, pos, negsuc, List, [], ◌∷◌, length, Option, Some, None}
-use Rattle.expr_dag.specs.fx_model.declared.Rounding.{Rounding}
-use Rattle.expr_dag.specs.fx_model.declared.ExprId.{ExprId}
-use Rattle.expr_dag.specs.fx_model.declared.Node.{Node}
-use Rattle.expr_dag.specs.fx_model.declared.Node.TheVariants.{Var}
-use Rattle.expr_dag.specs.literal.Spelling.{IsBetween}
+use Rattle.fx_model.specs.declared.Rounding.{Rounding}
+use Rattle.fx_model.specs.declared.ExprId.{ExprId}
+use Rattle.fx_model.specs.declared.Node.{Node}
+use Rattle.fx_model.specs.declared.Node.TheVariants.{Var}
+use Rattle.literal.specs.Spelling.{IsBetween}
 use Rattle.expr_dag.specs.Nodes.{IsAt}
 use Rattle.script_nodes.specs.declared.waits.Waits.{Waits}
 use Rattle.script_nodes.specs.declared.waits.Waits.TheVariants as wait

@@ -1,14 +1,13 @@
 -- The nodes of an expression, by recursion on its tree: operands from the left, then the operation,
 -- then its rounding.
 use Rattle.std.specs.Prelude.{Option, Some, None}
-use Rattle.expr_dag.specs.fx_model.declared.Rounding.{Rounding}
-use Rattle.expr_dag.specs.fx_model.declared.ExprId.{ExprId}
-use Rattle.expr_dag.specs.fx_model.declared.Node.{Node}
-use Rattle.expr_dag.specs.fx_model.declared.Node.TheVariants.{Lit, Neg, Add, Sub, Mul, Div, Abs}
-use Rattle.expr_dag.specs.fx_model.declared.Node.TheVariants.{Round}
-use Rattle.script_shape.specs.Tree.{Expr, term, sum, difference, Term, factor, product, quotient}
-use Rattle.script_shape.specs.Tree.{Factor, negation, atom, Atom, number, variable, parenthesized}
-use Rattle.script_shape.specs.Tree.{absolute, called, rounded, fused}
+use Rattle.fx_model.specs.declared.Rounding.{Rounding}
+use Rattle.fx_model.specs.declared.ExprId.{ExprId}
+use Rattle.fx_model.specs.declared.Node.{Node}
+use Rattle.fx_model.specs.declared.Node.TheVariants.{Lit, Neg, Add, Sub, Mul, Div, Abs, Round}
+use Rattle.script_shape.specs.Expressions.{Expr, term, sum, difference, Term, factor, product}
+use Rattle.script_shape.specs.Expressions.{quotient, Factor, negation, atom, Atom, number, variable}
+use Rattle.script_shape.specs.Expressions.{parenthesized, absolute, called, rounded, fused}
 use Rattle.script_nodes.specs.Literals.{literal_of}
 use Rattle.script_nodes.specs.Operators.{rounding_of}
 use Rattle.script_nodes.specs.Known.{Known, PlacedNode, put, named, operator_named}

@@ -2,8 +2,8 @@
 
 ghost use Rattle.std.specs.Prelude.{◌≡◌, ◌<◌, length, Err, IfOk, IfErr, OnOk};
 ghost use Rattle.std.specs.Option.{option_copied};
-ghost use Rattle.script_shape.specs.script_words.Named.{word_of};
-ghost use Rattle.script_shape.specs.script_words.Kept.{words_in};
+ghost use Rattle.script_words.specs.Named.{word_of};
+ghost use Rattle.script_words.specs.Kept.{words_in};
 ghost use Rattle.script_shape.specs.Tree.{Script, script_words};
 ghost use Rattle.script_shape.specs.Roles.{HasRoles, leaves_of};
 ghost use Rattle.script_nodes.specs.Known as spec_known;
@@ -14,10 +14,13 @@ ghost use Rattle.script_nodes.specs.Sound.{IsInRangeIf};
 
 use crate::reader::{NO_ROUNDING, NodeReader};
 use crate::waits::Waits;
-use expr_dag::{DagFault, Rounding};
+use expr_dag::DagFault;
+use fx_model::Rounding;
 use script_shape::due::Due;
 use script_shape::shape::leaves_are_of_trees;
-use script_shape::{Symbol, Word, WordList};
+use script_words::class::Symbol;
+use script_words::words::Word;
+use script_words::list::WordList;
 use std::alloc::Global;
 use std::marker::Model;
 

@@ -1,12 +1,13 @@
 //! What the texts of words write.
 
 ghost use Rattle.std.specs.Prelude.{◌≡◌, ◌≤◌};
-ghost use Rattle.expr_dag.specs.literal.Normal.{IsNormal};
+ghost use Rattle.literal.specs.Normal.{IsNormal};
 ghost use Rattle.script_nodes.specs.Operators as spec;
 ghost use Rattle.script_nodes.specs.Literals as spec_literals;
 
-use expr_dag::{Direction, Literal, read_bytes};
-use script_shape::number_below;
+use fx_model::{Direction, Literal};
+use literal::read_bytes;
+use script_words::digits::number_below;
 
 const NOUGHT: Literal = Literal {
     num: 0,

@@ -11,7 +11,8 @@ ghost use Rattle.script_nodes.specs.Sound.{IsInRangeIf, IsMade};
 
 use crate::reader::NodeReader;
 use crate::waits::Waits;
-use expr_dag::{DagFault, ExprId, Node, Rounding};
+use expr_dag::DagFault;
+use fx_model::{ExprId, Node, Rounding};
 
 impl<'a> NodeReader<'a> {
     /// The number of an operation, rounded where the definition's operations are.

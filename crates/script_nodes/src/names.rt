@@ -6,7 +6,7 @@ ghost use Rattle.std.specs.List.{position_or_len};
 ghost use Rattle.std.specs.Str.{bytes_eq};
 ghost use Rattle.script_nodes.specs.Known as spec;
 
-use expr_dag::{ExprId, Rounding};
+use fx_model::{ExprId, Rounding};
 use indexmap::{IndexMap, IndexSet};
 use std::alloc::{AllocError, Global};
 use std::marker::Model;
@@ -83,7 +83,7 @@ pub struct Values<'a> {
 impl<'a> Model for Values<'a> {
     ghost use Rattle.std.specs.Prelude.{List, map};
     ghost use Rattle.script_nodes.specs.Known.{Name};
-    ghost use Rattle.expr_dag.specs.fx_model.declared.ExprId.{ExprId};
+    ghost use Rattle.fx_model.specs.declared.ExprId.{ExprId};
 
     ghost Value = { List (Name × ExprId) };
 
@@ -126,7 +126,7 @@ pub struct Operators<'a> {
 impl<'a> Model for Operators<'a> {
     ghost use Rattle.std.specs.Prelude.{List, map};
     ghost use Rattle.script_nodes.specs.Known.{Name};
-    ghost use Rattle.expr_dag.specs.fx_model.declared.Rounding.{Rounding};
+    ghost use Rattle.fx_model.specs.declared.Rounding.{Rounding};
 
     ghost Value = { List (Name × Rounding) };
 

@@ -1,7 +1,7 @@
 //! The nodes of expressions, and what their words have left open.
 
-ghost use Rattle.std.specs.Prelude.{◌≡◌, ◌<◌, ◌≤◌, [], ◌∷◌, length, Some, None, Err, IfOk};
-ghost use Rattle.std.specs.Prelude.{OnOk, OnErr, IfErr, IfSome, MatchOption};
+ghost use Rattle.std.specs.Prelude.{◌≡◌, ◌<◌, ◌≤◌, [], ◌∷◌, length, Some, None, Err, IfOk, OnOk};
+ghost use Rattle.std.specs.Prelude.{OnErr, IfErr, IfSome, MatchOption};
 ghost use Rattle.expr_dag.specs.Nodes.{IsLawful};
 ghost use Rattle.script_nodes.specs.Known as spec;
 ghost use Rattle.script_nodes.specs.Definitions as spec_definitions;
@@ -10,7 +10,8 @@ ghost use Rattle.script_nodes.specs.Sound.{Fits, IsInRange, IsMade, IsSound};
 
 use crate::names::{Operators, Values, Variables};
 use crate::waits::Waits;
-use expr_dag::{Dag, DagFault, Direction, ExprId, Node, Rounding};
+use expr_dag::{Dag, DagFault};
+use fx_model::{Direction, ExprId, Node, Rounding};
 use std::alloc::Global;
 use std::marker::Model;
 

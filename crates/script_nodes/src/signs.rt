@@ -1,7 +1,7 @@
 //! What signs and operators' words make of what waits.
 
 ghost use Rattle.std.specs.Prelude.{◌≡◌, ◌<◌, pos, negsuc, length, Err, IfOk, IfErr, OnOk};
-ghost use Rattle.expr_dag.specs.literal.Spelling.{IsBetween};
+ghost use Rattle.literal.specs.Spelling.{IsBetween};
 ghost use Rattle.script_nodes.specs.Values as spec_values;
 ghost use Rattle.script_nodes.specs.OperatorWords as spec_operators;
 ghost use Rattle.script_nodes.specs.Waits as spec;
@@ -9,7 +9,8 @@ ghost use Rattle.script_nodes.specs.Sound.{IsInRangeIf};
 
 use crate::reader::NodeReader;
 use crate::waits::Waits;
-use expr_dag::{DagFault, Direction, ExprId, Node, Rounding};
+use expr_dag::DagFault;
+use fx_model::{Direction, ExprId, Node, Rounding};
 
 impl<'a> NodeReader<'a> {
     /// A sum waits for its right side.

@@ -1,6 +1,6 @@
 //! What waits for an operand.
 
-use expr_dag::{ExprId, Rounding};
+use fx_model::{ExprId, Rounding};
 
 /// What the words so far have left open.
 #[derive(Clone, Copy, Debug, PartialEq, Eq)]

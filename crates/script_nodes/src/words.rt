@@ -1,7 +1,7 @@
 //! Words of expressions, by their roles.
 
 ghost use Rattle.std.specs.Prelude.{◌≡◌, ◌<◌, length, Err, IfOk, IfErr, OnOk};
-ghost use Rattle.script_shape.specs.script_words.Named.{word_of};
+ghost use Rattle.script_words.specs.Named.{word_of};
 ghost use Rattle.script_nodes.specs.Known as spec_known;
 ghost use Rattle.script_nodes.specs.OperatorWords as spec_operators;
 ghost use Rattle.script_nodes.specs.Waits as spec;
@@ -10,9 +10,11 @@ ghost use Rattle.script_nodes.specs.Sound.{IsInRangeIf};
 use crate::digits::{direction_of, literal_of, number_of};
 use crate::reader::{NO_ROUNDING, NodeReader};
 use crate::waits::Waits;
-use expr_dag::{DagFault, ExprId, Node, Rounding};
+use expr_dag::DagFault;
+use fx_model::{ExprId, Node, Rounding};
 use script_shape::due::Due;
-use script_shape::{Symbol, Word};
+use script_words::class::Symbol;
+use script_words::words::Word;
 
 impl<'a> NodeReader<'a> {
     /// A sign that an operand begins with.

@@ -1,9 +1,9 @@
 -- A run that checks the role of each word.
 use Rattle.std.proofs.Common.{◌≡◌, ℕ, List, [], ◌∷◌, Option, Some, None, option_and_then, cond, eqb}
 use Rattle.std.proofs.Common.{refl, sym, ap, ◌∙◌}
+use Rattle.script_words.specs.Words.{Word, class_of}
 use Rattle.script_shape.specs.declared.due.Due.{Due}
 use Rattle.script_shape.specs.declared.due.Due.TheVariants as due
-use Rattle.script_words.specs.Words.{Word, class_of}
 use Rattle.script_shape.specs.Roles.{Leaf}
 use Rattle.script_shape.specs.Shape.{step, role_next}
 

@@ -13,10 +13,11 @@ use Rattle.script_words.specs.Lex.{front}
 use Rattle.script_words.specs.Named.{IsToken}
 use Rattle.script_shape.specs.declared.due.Due.{Due}
 use Rattle.script_shape.specs.declared.due.Due.TheVariants as due
-use Rattle.script_shape.specs.Tree.{AnyName, plain, free, Digits, digits, natural, unsigned, int}
-use Rattle.script_shape.specs.Tree.{Expr, term, factor, atom, number, asked, lies_in, affirmed}
-use Rattle.script_shape.specs.Tree.{single, nonzero, always, in_four, last_name, halved_by, like}
-use Rattle.script_shape.specs.Tree.{no_hint, exactly, formula}
+use Rattle.script_shape.specs.Expressions.{AnyName, plain, free, Digits, digits, natural, unsigned}
+use Rattle.script_shape.specs.Expressions.{int, Expr, term, factor, atom, number}
+use Rattle.script_shape.specs.Propositions.{asked, lies_in, affirmed, single}
+use Rattle.script_shape.specs.Hints.{nonzero, always, in_four, last_name, halved_by, like, no_hint}
+use Rattle.script_shape.specs.Tree.{exactly, formula}
 use Rattle.script_shape.proofs.Parts.{Part, part_words, Parts, parts_words, apart, to_pieces}
 use Rattle.script_shape.proofs.Parts.{skipped}
 

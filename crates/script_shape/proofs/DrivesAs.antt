@@ -3,22 +3,24 @@ use Rattle.std.proofs.Common.{◌≡◌, List, [], ◌∷◌, ◌++◌, Some, op
 use Rattle.std.proofs.Common.{append_assoc}
 use Rattle.script_words.specs.declared.class.Spelled.TheVariants as spelled
 use Rattle.script_words.specs.declared.class.Symbol.TheVariants as s
+use Rattle.script_words.specs.Words.{Word, name, rounding, literal, sign, class_of}
 use Rattle.script_shape.specs.declared.due.Due.{Due}
 use Rattle.script_shape.specs.declared.due.Due.TheVariants as due
-use Rattle.script_words.specs.Words.{Word, name, rounding, literal, sign, class_of}
-use Rattle.script_shape.specs.Tree.{AnyName, plain, operator, Special, free, defined, zero_alone}
-use Rattle.script_shape.specs.Tree.{digits, Whole, natural, opposite, Bound, unsigned, positive}
-use Rattle.script_shape.specs.Tree.{negative, Operator, fixed, int, Expr, term, sum, difference}
-use Rattle.script_shape.specs.Tree.{Term, factor, product, quotient, Factor, negation, atom, Atom}
-use Rattle.script_shape.specs.Tree.{number, variable, parenthesized, absolute, called, rounded}
-use Rattle.script_shape.specs.Tree.{fused, Range, asked, between, Prop, lies_in, relative_in}
-use Rattle.script_shape.specs.Tree.{at_most, at_least, multiple, Stated, affirmed, denied, Formula}
-use Rattle.script_shape.specs.Tree.{single, and, or, implies, Need, nonzero, below, not_above}
-use Rattle.script_shape.specs.Tree.{above, not_below, NeedList, last_need, more_needs, always}
-use Rattle.script_shape.specs.Tree.{provided, Points, last_point, more_points, in_four, pieces}
-use Rattle.script_shape.specs.Tree.{at_points, Names, last_name, more_names, Halving, halved_by}
-use Rattle.script_shape.specs.Tree.{with_goal, Hint, rewrite, like, split, halving, Hints, no_hint}
-use Rattle.script_shape.specs.Tree.{hint, How, exactly, rounded_by, rounded_apart, rounded_joined}
+use Rattle.script_shape.specs.Expressions.{AnyName, plain, operator, Special, free, defined}
+use Rattle.script_shape.specs.Expressions.{zero_alone, digits, Whole, natural, opposite, Bound}
+use Rattle.script_shape.specs.Expressions.{unsigned, positive, negative, Operator, fixed, int, Expr}
+use Rattle.script_shape.specs.Expressions.{term, sum, difference, Term, factor, product, quotient}
+use Rattle.script_shape.specs.Expressions.{Factor, negation, atom, Atom, number, variable}
+use Rattle.script_shape.specs.Expressions.{parenthesized, absolute, called, rounded, fused}
+use Rattle.script_shape.specs.Propositions.{Range, asked, between, Prop, lies_in, relative_in}
+use Rattle.script_shape.specs.Propositions.{at_most, at_least, multiple, Stated, affirmed, denied}
+use Rattle.script_shape.specs.Propositions.{Formula, single, and, or, implies}
+use Rattle.script_shape.specs.Hints.{Need, nonzero, below, not_above, above, not_below, NeedList}
+use Rattle.script_shape.specs.Hints.{last_need, more_needs, always, provided, Points, last_point}
+use Rattle.script_shape.specs.Hints.{more_points, in_four, pieces, at_points, Names, last_name}
+use Rattle.script_shape.specs.Hints.{more_names, Halving, halved_by, with_goal, Hint, rewrite, like}
+use Rattle.script_shape.specs.Hints.{split, halving, Hints, no_hint, hint}
+use Rattle.script_shape.specs.Tree.{How, exactly, rounded_by, rounded_apart, rounded_joined}
 use Rattle.script_shape.specs.Tree.{Definition, names_operator, names_value, Script, formula}
 use Rattle.script_shape.specs.Tree.{define}
 use Rattle.script_shape.specs.Roles.{Leaf, at, name_leaves, special_leaves, whole_leaves}

@@ -7,28 +7,30 @@ use Rattle.script_words.specs.declared.class.Number.{Number}
 use Rattle.script_words.specs.declared.class.Number.TheVariants as digits_kind
 use Rattle.script_words.specs.declared.class.Symbol.{Symbol}
 use Rattle.script_words.specs.declared.class.Symbol.TheVariants as s
+use Rattle.script_words.specs.Words.{Word, name, rounding, literal, sign, class_of}
 use Rattle.script_shape.specs.declared.due.Due.{Due}
 use Rattle.script_shape.specs.declared.due.Due.TheVariants as due
-use Rattle.script_words.specs.Words.{Word, name, rounding, literal, sign, class_of}
-use Rattle.script_shape.specs.Tree.{AnyName, plain, operator, name_words, Special, free, defined}
-use Rattle.script_shape.specs.Tree.{special_words, Digits, zero_alone, digits, digits_words, Whole}
-use Rattle.script_shape.specs.Tree.{natural, opposite, whole_words, Bound, unsigned, positive}
-use Rattle.script_shape.specs.Tree.{negative, bound_words, Operator, fixed, int, operator_words}
-use Rattle.script_shape.specs.Tree.{Expr, term, factor, atom, Atom, number, variable, parenthesized}
-use Rattle.script_shape.specs.Tree.{absolute, called, rounded, fused, expr_words, atom_words, Range}
-use Rattle.script_shape.specs.Tree.{asked, between, range_words, Prop, lies_in, relative_in}
-use Rattle.script_shape.specs.Tree.{at_most, at_least, multiple, prop_words, Stated, affirmed}
-use Rattle.script_shape.specs.Tree.{denied, stated_words, Formula, single, and, or, implies}
-use Rattle.script_shape.specs.Tree.{formula_words, Need, nonzero, below, not_above, above}
-use Rattle.script_shape.specs.Tree.{not_below, need_words, NeedList, last_need, more_needs}
-use Rattle.script_shape.specs.Tree.{need_list_words, Needs, always, provided, needs_words, Points}
-use Rattle.script_shape.specs.Tree.{last_point, more_points, points_words, CutForm, in_four, pieces}
-use Rattle.script_shape.specs.Tree.{at_points, cut_words, Names, last_name, more_names, names_words}
-use Rattle.script_shape.specs.Tree.{Halving, halved_by, with_goal, halving_words, Hint, rewrite}
-use Rattle.script_shape.specs.Tree.{like, split, halving, hint_words, Hints, no_hint, hint}
-use Rattle.script_shape.specs.Tree.{hints_words, How, exactly, rounded_by, rounded_apart}
-use Rattle.script_shape.specs.Tree.{rounded_joined, how_words, names_operator, names_value, Script}
-use Rattle.script_shape.specs.Tree.{formula, define, script_words}
+use Rattle.script_shape.specs.Expressions.{AnyName, plain, operator, name_words, Special, free}
+use Rattle.script_shape.specs.Expressions.{defined, special_words, Digits, zero_alone, digits}
+use Rattle.script_shape.specs.Expressions.{digits_words, Whole, natural, opposite, whole_words}
+use Rattle.script_shape.specs.Expressions.{Bound, unsigned, positive, negative, bound_words}
+use Rattle.script_shape.specs.Expressions.{Operator, fixed, int, operator_words, Expr, term, factor}
+use Rattle.script_shape.specs.Expressions.{atom, Atom, number, variable, parenthesized, absolute}
+use Rattle.script_shape.specs.Expressions.{called, rounded, fused, expr_words, atom_words}
+use Rattle.script_shape.specs.Propositions.{Range, asked, between, range_words, Prop, lies_in}
+use Rattle.script_shape.specs.Propositions.{relative_in, at_most, at_least, multiple, prop_words}
+use Rattle.script_shape.specs.Propositions.{Stated, affirmed, denied, stated_words, Formula, single}
+use Rattle.script_shape.specs.Propositions.{and, or, implies, formula_words}
+use Rattle.script_shape.specs.Hints.{Need, nonzero, below, not_above, above, not_below, need_words}
+use Rattle.script_shape.specs.Hints.{NeedList, last_need, more_needs, need_list_words, Needs}
+use Rattle.script_shape.specs.Hints.{always, provided, needs_words, Points, last_point, more_points}
+use Rattle.script_shape.specs.Hints.{points_words, CutForm, in_four, pieces, at_points, cut_words}
+use Rattle.script_shape.specs.Hints.{Names, last_name, more_names, names_words, Halving, halved_by}
+use Rattle.script_shape.specs.Hints.{with_goal, halving_words, Hint, rewrite, like, split, halving}
+use Rattle.script_shape.specs.Hints.{hint_words, Hints, no_hint, hint, hints_words}
+use Rattle.script_shape.specs.Tree.{How, exactly, rounded_by, rounded_apart, rounded_joined}
+use Rattle.script_shape.specs.Tree.{how_words, names_operator, names_value, Script, formula, define}
+use Rattle.script_shape.specs.Tree.{script_words}
 use Rattle.script_shape.specs.Table.{operand, then_due, takes, may_skip}
 use Rattle.script_shape.specs.Shape.{after_top, step, run, may_end}
 use Rattle.script_shape.proofs.Regroup.{lead_sum, lead_sum_words, lead_difference}

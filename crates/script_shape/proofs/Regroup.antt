@@ -2,8 +2,9 @@
 use Rattle.std.proofs.Common.{◌≡◌, List, ◌∷◌, ◌++◌, refl, ap, ◌∙◌, append_assoc}
 use Rattle.script_words.specs.Words.{Word, sign}
 use Rattle.script_words.specs.declared.class.Symbol.TheVariants as s
-use Rattle.script_shape.specs.Tree.{Expr, term, sum, difference, Term, factor, product, quotient}
-use Rattle.script_shape.specs.Tree.{Factor, negation, expr_words, term_words, factor_words}
+use Rattle.script_shape.specs.Expressions.{Expr, term, sum, difference, Term, factor, product}
+use Rattle.script_shape.specs.Expressions.{quotient, Factor, negation, expr_words, term_words}
+use Rattle.script_shape.specs.Expressions.{factor_words}
 
 abbrev pub lead_sum : Term → Expr → Expr
 lead_sum t (term u) = sum (term t) u

@@ -5,31 +5,34 @@ use Rattle.std.proofs.Common.{◌∙◌, append-nil}
 use Rattle.std.proofs.lemmas.List.{map-append, length-map}
 use Rattle.std.proofs.Math.Seq.{take-length}
 use Rattle.std.proofs.lemmas.Bool.{eqb-true}
-use Rattle.script_shape.specs.declared.due.Due.{Due}
-use Rattle.script_shape.specs.declared.due.Due.TheVariants as due
 use Rattle.script_words.specs.declared.class.Symbol.TheVariants as s
 use Rattle.script_words.specs.Words.{Word, class_of, sign}
-use Rattle.script_shape.specs.Tree.{AnyName, plain, operator, name_words, Special, free, defined}
-use Rattle.script_shape.specs.Tree.{special_words, Digits, zero_alone, digits, digits_words, Whole}
-use Rattle.script_shape.specs.Tree.{natural, opposite, whole_words, Bound, unsigned, positive}
-use Rattle.script_shape.specs.Tree.{negative, bound_words, Operator, fixed, int, operator_words}
-use Rattle.script_shape.specs.Tree.{Expr, term, sum, difference, Term, factor, product, quotient}
-use Rattle.script_shape.specs.Tree.{Factor, negation, atom, Atom, number, variable, parenthesized}
-use Rattle.script_shape.specs.Tree.{absolute, called, rounded, fused, expr_words, term_words}
-use Rattle.script_shape.specs.Tree.{factor_words, atom_words, Range, asked, between, range_words}
-use Rattle.script_shape.specs.Tree.{Prop, lies_in, relative_in, at_most, at_least, multiple}
-use Rattle.script_shape.specs.Tree.{prop_words, Stated, affirmed, denied, stated_words, Formula}
-use Rattle.script_shape.specs.Tree.{single, and, or, implies, formula_words, Need, nonzero, below}
-use Rattle.script_shape.specs.Tree.{not_above, above, not_below, need_words, NeedList, last_need}
-use Rattle.script_shape.specs.Tree.{more_needs, need_list_words, Needs, always, provided}
-use Rattle.script_shape.specs.Tree.{needs_words, Points, last_point, more_points, points_words}
-use Rattle.script_shape.specs.Tree.{CutForm, in_four, pieces, at_points, cut_words, Names}
-use Rattle.script_shape.specs.Tree.{last_name, more_names, names_words, Halving, halved_by}
-use Rattle.script_shape.specs.Tree.{with_goal, halving_words, Hint, rewrite, like, split, halving}
-use Rattle.script_shape.specs.Tree.{hint_words, Hints, no_hint, hint, hints_words, How, exactly}
-use Rattle.script_shape.specs.Tree.{rounded_by, rounded_apart, rounded_joined, how_words}
-use Rattle.script_shape.specs.Tree.{Definition, names_operator, names_value, definition_words}
-use Rattle.script_shape.specs.Tree.{Script, formula, define, script_words}
+use Rattle.script_words.specs.declared.class.Spelled.{Spelled}
+use Rattle.script_shape.specs.declared.due.Due.{Due}
+use Rattle.script_shape.specs.declared.due.Due.TheVariants as due
+use Rattle.script_shape.specs.Expressions.{AnyName, plain, operator, name_words, Special, free}
+use Rattle.script_shape.specs.Expressions.{defined, special_words, Digits, zero_alone, digits}
+use Rattle.script_shape.specs.Expressions.{digits_words, Whole, natural, opposite, whole_words}
+use Rattle.script_shape.specs.Expressions.{Bound, unsigned, positive, negative, bound_words}
+use Rattle.script_shape.specs.Expressions.{Operator, fixed, int, operator_words, Expr, term, sum}
+use Rattle.script_shape.specs.Expressions.{difference, Term, factor, product, quotient, Factor}
+use Rattle.script_shape.specs.Expressions.{negation, atom, Atom, number, variable, parenthesized}
+use Rattle.script_shape.specs.Expressions.{absolute, called, rounded, fused, expr_words, term_words}
+use Rattle.script_shape.specs.Expressions.{factor_words, atom_words}
+use Rattle.script_shape.specs.Propositions.{Range, asked, between, range_words, Prop, lies_in}
+use Rattle.script_shape.specs.Propositions.{relative_in, at_most, at_least, multiple, prop_words}
+use Rattle.script_shape.specs.Propositions.{Stated, affirmed, denied, stated_words, Formula, single}
+use Rattle.script_shape.specs.Propositions.{and, or, implies, formula_words}
+use Rattle.script_shape.specs.Hints.{Need, nonzero, below, not_above, above, not_below, need_words}
+use Rattle.script_shape.specs.Hints.{NeedList, last_need, more_needs, need_list_words, Needs}
+use Rattle.script_shape.specs.Hints.{always, provided, needs_words, Points, last_point, more_points}
+use Rattle.script_shape.specs.Hints.{points_words, CutForm, in_four, pieces, at_points, cut_words}
+use Rattle.script_shape.specs.Hints.{Names, last_name, more_names, names_words, Halving, halved_by}
+use Rattle.script_shape.specs.Hints.{with_goal, halving_words, Hint, rewrite, like, split, halving}
+use Rattle.script_shape.specs.Hints.{hint_words, Hints, no_hint, hint, hints_words}
+use Rattle.script_shape.specs.Tree.{How, exactly, rounded_by, rounded_apart, rounded_joined}
+use Rattle.script_shape.specs.Tree.{how_words, Definition, names_operator, names_value}
+use Rattle.script_shape.specs.Tree.{definition_words, Script, formula, define, script_words}
 use Rattle.script_shape.specs.Roles.{Leaf, at, name_leaves, special_leaves, digits_leaves}
 use Rattle.script_shape.specs.Roles.{whole_leaves, bound_leaves, operator_leaves, expr_leaves}
 use Rattle.script_shape.specs.Roles.{term_leaves, factor_leaves, atom_leaves, range_leaves}
@@ -42,7 +45,6 @@ use Rattle.script_shape.specs.Shape.{step, run, start}
 use Rattle.script_shape.specs.ShapeLaw.{grown, roles_from}
 use Rattle.script_shape.proofs.Checked.{number_of, same_number, role_at, checked, step_as, run_as}
 use Rattle.script_shape.proofs.DrivesAs.{script_drives}
-use Rattle.script_words.specs.declared.class.Spelled.{Spelled}
 
 abbrev words_of : List Leaf → List Word
 words_of ls = map (λ l. l.word) ls

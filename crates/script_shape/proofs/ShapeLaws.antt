@@ -1,9 +1,9 @@
 -- The law of the stack.
 use Rattle.std.proofs.Common.{◌≡◌, List, [], ◌∷◌, ◌++◌, Option, Some, None, option_and_then, true}
 use Rattle.std.proofs.Common.{false, refl, sym, ap, ◌∙◌, append-nil, subst}
+use Rattle.script_words.specs.Words.{Word, class_of}
 use Rattle.script_shape.specs.declared.due.Due.{Due}
 use Rattle.script_shape.specs.declared.due.Due.TheVariants as due
-use Rattle.script_words.specs.Words.{Word, class_of}
 use Rattle.script_shape.specs.Tree.{Script, script_words, IsScript, BeginsScript}
 use Rattle.script_shape.specs.Shape.{step, run, start, may_end}
 use Rattle.script_shape.specs.ShapeLaw.{ShapeIsExact}

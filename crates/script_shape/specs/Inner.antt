@@ -7,12 +7,12 @@ use Rattle.script_words.specs.declared.class.Symbol.TheVariants as s
 use Rattle.script_words.specs.Words.{sign}
 use Rattle.script_shape.specs.declared.due.Due.{Due}
 use Rattle.script_shape.specs.declared.due.Due.TheVariants as d
-use Rattle.script_shape.specs.Tree.{AnyName, plain, operator, Special, free, defined, Digits}
-use Rattle.script_shape.specs.Tree.{zero_alone, digits, Whole, natural, opposite, Bound, unsigned}
-use Rattle.script_shape.specs.Tree.{positive, negative, Operator, fixed, int, Expr, term, sum}
-use Rattle.script_shape.specs.Tree.{difference, Term, factor, product, quotient, Factor, negation}
-use Rattle.script_shape.specs.Tree.{atom, Atom, number, variable, parenthesized, absolute, called}
-use Rattle.script_shape.specs.Tree.{rounded, fused}
+use Rattle.script_shape.specs.Expressions.{AnyName, plain, operator, Special, free, defined, Digits}
+use Rattle.script_shape.specs.Expressions.{zero_alone, digits, Whole, natural, opposite, Bound}
+use Rattle.script_shape.specs.Expressions.{unsigned, positive, negative, Operator, fixed, int, Expr}
+use Rattle.script_shape.specs.Expressions.{term, sum, difference, Term, factor, product, quotient}
+use Rattle.script_shape.specs.Expressions.{Factor, negation, atom, Atom, number, variable}
+use Rattle.script_shape.specs.Expressions.{parenthesized, absolute, called, rounded, fused}
 use Rattle.script_shape.specs.Roles.{Leaf, at, name_leaves, special_leaves, digits_leaves}
 use Rattle.script_shape.specs.Roles.{whole_leaves, bound_leaves, operator_leaves, expr_leaves}
 use Rattle.script_shape.specs.Roles.{term_leaves, factor_leaves, atom_leaves}

@@ -1,5 +1,3 @@
--- What callers name of the crates below.
-pub use Rattle.script_words.specs as script_words
 pub mod Expressions
 pub mod Propositions
 pub mod Hints

@@ -2,27 +2,29 @@
 -- for or begins. By recursion on the tree, as the words are.
 use Rattle.std.specs.Prelude.{◌≡◌, List, [], ◌∷◌, ◌++◌, take, length, map}
 use Rattle.script_words.specs.Words.{Word, name, rounding, literal, sign}
-use Rattle.script_shape.specs.declared.due.Due.{Due}
-use Rattle.script_shape.specs.declared.due.Due.TheVariants as d
 use Rattle.script_words.specs.declared.class.Spelled.{Spelled}
 use Rattle.script_words.specs.declared.class.Spelled.TheVariants as spelled
 use Rattle.script_words.specs.declared.class.Number.TheVariants as digits_kind
 use Rattle.script_words.specs.declared.class.Symbol.TheVariants as s
-use Rattle.script_shape.specs.Tree.{AnyName, plain, operator, Special, free, defined, Digits}
-use Rattle.script_shape.specs.Tree.{zero_alone, digits, Whole, natural, opposite, Bound, unsigned}
-use Rattle.script_shape.specs.Tree.{positive, negative, Operator, fixed, int, Expr, term, sum}
-use Rattle.script_shape.specs.Tree.{difference, Term, factor, product, quotient, Factor, negation}
-use Rattle.script_shape.specs.Tree.{atom, Atom, number, variable, parenthesized, absolute, called}
-use Rattle.script_shape.specs.Tree.{rounded, fused, Range, asked, between, Prop, lies_in}
-use Rattle.script_shape.specs.Tree.{relative_in, at_most, at_least, multiple, Stated, affirmed}
-use Rattle.script_shape.specs.Tree.{denied, Formula, single, and, or, implies, Need, nonzero, below}
-use Rattle.script_shape.specs.Tree.{not_above, above, not_below, NeedList, last_need, more_needs}
-use Rattle.script_shape.specs.Tree.{Needs, always, provided, Points, last_point, more_points}
-use Rattle.script_shape.specs.Tree.{CutForm, in_four, pieces, at_points, Names, last_name}
-use Rattle.script_shape.specs.Tree.{more_names, Halving, halved_by, with_goal, Hint, rewrite, like}
-use Rattle.script_shape.specs.Tree.{split, halving, Hints, no_hint, hint, How, exactly, rounded_by}
-use Rattle.script_shape.specs.Tree.{rounded_apart, rounded_joined, Definition, names_operator}
-use Rattle.script_shape.specs.Tree.{names_value, Script, formula, define, script_words}
+use Rattle.script_shape.specs.declared.due.Due.{Due}
+use Rattle.script_shape.specs.declared.due.Due.TheVariants as d
+use Rattle.script_shape.specs.Expressions.{AnyName, plain, operator, Special, free, defined, Digits}
+use Rattle.script_shape.specs.Expressions.{zero_alone, digits, Whole, natural, opposite, Bound}
+use Rattle.script_shape.specs.Expressions.{unsigned, positive, negative, Operator, fixed, int, Expr}
+use Rattle.script_shape.specs.Expressions.{term, sum, difference, Term, factor, product, quotient}
+use Rattle.script_shape.specs.Expressions.{Factor, negation, atom, Atom, number, variable}
+use Rattle.script_shape.specs.Expressions.{parenthesized, absolute, called, rounded, fused}
+use Rattle.script_shape.specs.Propositions.{Range, asked, between, Prop, lies_in, relative_in}
+use Rattle.script_shape.specs.Propositions.{at_most, at_least, multiple, Stated, affirmed, denied}
+use Rattle.script_shape.specs.Propositions.{Formula, single, and, or, implies}
+use Rattle.script_shape.specs.Hints.{Need, nonzero, below, not_above, above, not_below, NeedList}
+use Rattle.script_shape.specs.Hints.{last_need, more_needs, Needs, always, provided, Points}
+use Rattle.script_shape.specs.Hints.{last_point, more_points, CutForm, in_four, pieces, at_points}
+use Rattle.script_shape.specs.Hints.{Names, last_name, more_names, Halving, halved_by, with_goal}
+use Rattle.script_shape.specs.Hints.{Hint, rewrite, like, split, halving, Hints, no_hint, hint}
+use Rattle.script_shape.specs.Tree.{How, exactly, rounded_by, rounded_apart, rounded_joined}
+use Rattle.script_shape.specs.Tree.{Definition, names_operator, names_value, Script, formula}
+use Rattle.script_shape.specs.Tree.{define, script_words}
 
 -- a word, and the thing that was due where it stands
 pub record Leaf : Type 0 where

@@ -1,9 +1,9 @@
 -- The stack after some words tells whether they begin a script, and whether they are one.
 use Rattle.std.specs.Prelude.{◌≡◌, ℕ, ◌+◌, ◌<◌, ◌≤◌, List, [], ◌∷◌, length, take, map, Option, Some}
 use Rattle.std.specs.Prelude.{None, Bool, true, false}
-use Rattle.script_shape.specs.declared.due.Due.{Due}
 use Rattle.script_words.specs.declared.class.Class.{Class}
 use Rattle.script_words.specs.Words.{Word, class_of}
+use Rattle.script_shape.specs.declared.due.Due.{Due}
 use Rattle.script_shape.specs.Tree.{IsScript, BeginsScript}
 use Rattle.script_shape.specs.Shape.{step, role_next, run, start, may_end}
 use Rattle.script_shape.specs.Roles.{Leaf, at, HasRoles}

@@ -1,7 +1,7 @@
 -- The table of the grammar: what each thing that is due takes, and what is due after it, the next
 -- first.
-use Rattle.std.specs.Prelude.{List, [], ◌∷◌, ◌++◌, Option, Some, None, Bool, true, false}
-use Rattle.std.specs.Prelude.{◌≡◌, reverse, MatchOption}
+use Rattle.std.specs.Prelude.{List, [], ◌∷◌, ◌++◌, Option, Some, None, Bool, true, false, ◌≡◌}
+use Rattle.std.specs.Prelude.{reverse, MatchOption}
 use Rattle.std.specs.Borrow.{Bor}
 use Rattle.script_words.specs.declared.class.Class.{Class}
 use Rattle.script_words.specs.declared.class.Class.TheVariants.{Name, Rounding, Literal, Sign}

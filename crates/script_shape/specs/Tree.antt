@@ -5,27 +5,10 @@ use Rattle.script_words.specs.Words.{Word, rounding, sign}
 use Rattle.script_words.specs.Named.{IsToken}
 use Rattle.script_words.specs.declared.class.Spelled.{Spelled}
 use Rattle.script_words.specs.declared.class.Symbol.TheVariants as s
-pub use Rattle.script_shape.specs.Expressions.{AnyName, plain, operator, name_words, Special, free}
-pub use Rattle.script_shape.specs.Expressions.{defined, special_words, Digits, zero_alone, digits}
-pub use Rattle.script_shape.specs.Expressions.{digits_words, Whole, natural, opposite, whole_words}
-pub use Rattle.script_shape.specs.Expressions.{Bound, unsigned, positive, negative, bound_words}
-pub use Rattle.script_shape.specs.Expressions.{Operator, fixed, int, operator_words, Expr, term}
-pub use Rattle.script_shape.specs.Expressions.{sum, difference, Term, factor, product, quotient}
-pub use Rattle.script_shape.specs.Expressions.{Factor, negation, atom, Atom, number, variable}
-pub use Rattle.script_shape.specs.Expressions.{parenthesized, absolute, called, rounded, fused}
-pub use Rattle.script_shape.specs.Expressions.{expr_words, term_words, factor_words, atom_words}
-pub use Rattle.script_shape.specs.Propositions.{Range, asked, between, range_words, Prop, lies_in}
-pub use Rattle.script_shape.specs.Propositions.{relative_in, at_most, at_least, multiple}
-pub use Rattle.script_shape.specs.Propositions.{prop_words, Stated, affirmed, denied, stated_words}
-pub use Rattle.script_shape.specs.Propositions.{Formula, single, and, or, implies, formula_words}
-pub use Rattle.script_shape.specs.Hints.{Need, nonzero, below, not_above, above, not_below}
-pub use Rattle.script_shape.specs.Hints.{need_words, NeedList, last_need, more_needs}
-pub use Rattle.script_shape.specs.Hints.{need_list_words, Needs, always, provided, needs_words}
-pub use Rattle.script_shape.specs.Hints.{Points, last_point, more_points, points_words, CutForm}
-pub use Rattle.script_shape.specs.Hints.{in_four, pieces, at_points, cut_words, Names, last_name}
-pub use Rattle.script_shape.specs.Hints.{more_names, names_words, Halving, halved_by, with_goal}
-pub use Rattle.script_shape.specs.Hints.{halving_words, Hint, rewrite, like, split, halving}
-pub use Rattle.script_shape.specs.Hints.{hint_words, Hints, no_hint, hint, hints_words}
+use Rattle.script_shape.specs.Expressions.{AnyName, name_words, Operator, operator_words, Expr}
+use Rattle.script_shape.specs.Expressions.{expr_words}
+use Rattle.script_shape.specs.Propositions.{Formula, formula_words}
+use Rattle.script_shape.specs.Hints.{Hints, hints_words}
 
 -- what stands between a definition's name and its expression. After a written operator the sign
 -- `>=` stands for `>` `=`

@@ -1,13 +1,13 @@
 //! Where a list of words leaves the grammar of scripts.
 
 ghost use Rattle.std.specs.Prelude.{◌≡◌, length, reverse, IfOk};
+ghost use Rattle.script_words.specs.Kept.{words_in};
 ghost use Rattle.script_shape.specs.Shape as spec;
 ghost use Rattle.script_shape.specs.ShapeLaw.{ShapeIsExact, ShapeIsUnique, ShapesExist};
 ghost use Rattle.script_shape.specs.ShapeLaw.{RolesAreUnique, Steps, IsShapeOf, AreRolesOf};
 ghost use Rattle.script_shape.specs.Roles.{LeavesSpell, LeavesAreOfTrees};
 ghost use Rattle.script_shape.specs.Next as spec_next;
 ghost use Rattle.script_shape.specs.Next.{NextIsExact};
-ghost use Rattle.script_words.specs.Kept.{words_in};
 
 use crate::due::Due;
 use crate::table::{may_skip, role_of, takes};

@@ -1,9 +1,9 @@
 //! The table of the grammar: what each thing that is due takes.
 
 ghost use Rattle.std.specs.Prelude.{[], ◌∷◌, ◌≡◌, MatchOption};
+ghost use Rattle.script_words.specs.declared.class.Class.TheVariants as class_of;
 ghost use Rattle.script_shape.specs.Table as spec;
 ghost use Rattle.script_shape.specs.Table.{Answers};
-ghost use Rattle.script_words.specs.declared.class.Class.TheVariants as class_of;
 
 use crate::due::Due;
 use script_words::class::{Class, Number, Spelled, Symbol};

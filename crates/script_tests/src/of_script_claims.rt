@@ -10,9 +10,8 @@ use fx_model::ExprId;
 use interval::Interval;
 use literal::read;
 use literal_order::Written;
-use script_claims::{
-    Claim, ClaimReader, Want, formulas_are_read, goals_are_enough, hypotheses_hold,
-};
+use script_claims::{Claim, ClaimReader, formulas_are_read, goals_are_enough, hypotheses_hold};
+use goals::Want;
 use script_nodes::reader::NodeReader;
 use script_shape::shape::shape_of;
 use script_words::words::read_words;

@@ -2,7 +2,7 @@
 
 ghost use Rattle.std.specs.Prelude.{◌<◌, ◌^◌, length};
 
-use expr_dag::{Direction, ExprId, Literal, Node, Rounding};
+use fx_model::{Direction, ExprId, Literal, Node, Rounding};
 use script_nodes::definitions::{Definitions, definitions_of};
 use script_shape::shape::shape_of;
 use script_words::words::read_words;

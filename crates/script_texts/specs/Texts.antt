@@ -4,13 +4,13 @@ use Rattle.std.proofs.Common.{◌∙◌, ap, sym, subst, refl, inl, inr}
 use Rattle.std.proofs.lemmas.Bool.{cases_lt}
 use Rattle.std.proofs.lemmas.List.{length-take-le, take_all}
 use Rattle.std.proofs.Math.Nat.{le_of_lt, lt-suc_self, not-le_of_lt}
-use Rattle.report.specs.script_judge.declared.refusal.Refusal.{Refusal}
-use Rattle.report.specs.script_judge.declared.refusal.RefusalKind.TheVariants as kind
-use Rattle.report.specs.script_judge.declared.refusal.LimitKind.TheVariants as limit
-use Rattle.report.specs.script_judge.Reading.{refusal, too_long, not_text}
-use Rattle.report.specs.script_judge.First as first
-use Rattle.report.specs.script_judge.First.{IsFirstRefusal, FirstsAreUnique}
-use Rattle.report.specs.script_grammar.Spells.{View, Spells, IsRefused}
+use Rattle.script_judge.specs.declared.refusal.Refusal.{Refusal}
+use Rattle.script_judge.specs.declared.refusal.RefusalKind.TheVariants as kind
+use Rattle.script_judge.specs.declared.refusal.LimitKind.TheVariants as limit
+use Rattle.script_judge.specs.Reading.{refusal, too_long, not_text}
+use Rattle.script_judge.specs.First as first
+use Rattle.script_judge.specs.First.{IsFirstRefusal, FirstsAreUnique}
+use Rattle.script_grammar.specs.Spells.{View, Spells, IsRefused}
 use Rattle.whole_texts.specs.Texts.{IsText}
 use Rattle.command_runs.specs.Runs.{Bytes, Told}
 use Rattle.command_runs.specs.Fates.{IsTold, OfText}

@@ -1,10 +1,10 @@
 // The line of a text that spells no script.
 ghost use Rattle.std.specs.Prelude.{◌≡◌, IfOk};
-ghost use Rattle.report.specs.script_judge.declared.refusal.Refusal.{Refusal};
-ghost use Rattle.report.specs.script_grammar.Spells.{IsRefused};
+ghost use Rattle.script_judge.specs.declared.refusal.Refusal.{Refusal};
+ghost use Rattle.script_grammar.specs.Spells.{IsRefused};
 ghost use Rattle.script_texts.specs.Texts.{IsRefusedWith};
 
-use report::ParseStop;
+use script_grammar::ParseStop;
 use report::refusals::refusal_line;
 use std::alloc::{AllocError, Global};
 

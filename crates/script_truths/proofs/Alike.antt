@@ -11,31 +11,31 @@ use Rattle.fx_model.specs.Powers.{IsMultiple}
 use Rattle.fx_model.specs.Enclosure.{Lies}
 use Rattle.fx_model.specs.Expression.{Assignment, value}
 use Rattle.dyadic.specs.Ends.{bound_of}
-use Rattle.theorem_list.specs.interval.declared.interval.Interval.{Interval}
-use Rattle.theorem_list.specs.interval.Intervals.{range_of}
-use Rattle.theorem_list.specs.facts.declared.fact.Fact.{Fact}
-use Rattle.theorem_list.specs.facts.declared.fact.Fact.TheVariants as fact
-use Rattle.theorem_list.specs.facts.declared.fact.Slot.{Slot}
-use Rattle.theorem_list.specs.facts.declared.fact.Slot.TheVariants as slot
-use Rattle.theorem_list.specs.facts.declared.hint.Need.{Need}
-use Rattle.theorem_list.specs.facts.declared.hint.Need.TheVariants as need
-use Rattle.theorem_list.specs.facts.declared.hint.HintRow.{HintRow}
-use Rattle.theorem_list.specs.facts.Holds.{Holds, AreZero, IsRelated, IsRelatedBy}
-use Rattle.theorem_list.specs.facts.Order.{slot_of}
-use Rattle.theorem_list.specs.facts.Rows.{IsMet, IsUnder, IsOver, RowIsTrue}
-use Rattle.box_tree.specs.goals.declared.line.Line.{Line}
-use Rattle.box_tree.specs.goals.declared.line.Line.TheVariants as line
-use Rattle.box_tree.specs.goals.Lies.{OfBoth, LiesAt, AreZeroAt}
-use Rattle.box_tree.specs.goals.Holds.{LineHolds}
-use Rattle.box_tree.specs.literal_order.Values.{written_value}
-use Rattle.box_tree.specs.script_bounds.Bounds.{written_range}
-use Rattle.box_tree.specs.script_claims.declared.claim.Claim.{Claim}
-use Rattle.box_tree.specs.script_claims.declared.claim.Claim.TheVariants.{Bounded, Asked, Relative}
-use Rattle.box_tree.specs.script_claims.declared.claim.Claim.TheVariants.{RelativeAsked, Multiple}
-use Rattle.box_tree.specs.script_claims.declared.claim.Claim.TheVariants.{Above, Below}
-use Rattle.box_tree.specs.script_claims.Meets.{IsRelatedWithin, IsTrueAt}
-use Rattle.script_meets.specs.script_grammar.Names.{AreNodes, ClaimIsOf}
-use Rattle.universe.specs.rule_universe.Licensed.{NeedIsKnown, RowIsKnown}
+use Rattle.interval.specs.declared.interval.Interval.{Interval}
+use Rattle.interval.specs.Intervals.{range_of}
+use Rattle.literal_order.specs.Values.{written_value}
+use Rattle.facts.specs.declared.fact.Fact.{Fact}
+use Rattle.facts.specs.declared.fact.Fact.TheVariants as fact
+use Rattle.facts.specs.declared.fact.Slot.{Slot}
+use Rattle.facts.specs.declared.fact.Slot.TheVariants as slot
+use Rattle.facts.specs.declared.hint.Need.{Need}
+use Rattle.facts.specs.declared.hint.Need.TheVariants as need
+use Rattle.facts.specs.declared.hint.HintRow.{HintRow}
+use Rattle.facts.specs.Holds.{Holds, AreZero, IsRelated, IsRelatedBy}
+use Rattle.facts.specs.Order.{slot_of}
+use Rattle.facts.specs.Rows.{IsMet, IsUnder, IsOver, RowIsTrue}
+use Rattle.goals.specs.declared.line.Line.{Line}
+use Rattle.goals.specs.declared.line.Line.TheVariants as line
+use Rattle.goals.specs.Lies.{OfBoth, LiesAt, AreZeroAt}
+use Rattle.goals.specs.Holds.{LineHolds}
+use Rattle.script_bounds.specs.Bounds.{written_range}
+use Rattle.script_claims.specs.declared.claim.Claim.{Claim}
+use Rattle.script_claims.specs.declared.claim.Claim.TheVariants.{Bounded, Asked, Relative}
+use Rattle.script_claims.specs.declared.claim.Claim.TheVariants.{RelativeAsked, Multiple, Above}
+use Rattle.script_claims.specs.declared.claim.Claim.TheVariants.{Below}
+use Rattle.script_claims.specs.Meets.{IsRelatedWithin, IsTrueAt}
+use Rattle.script_grammar.specs.Names.{AreNodes, ClaimIsOf}
+use Rattle.rule_universe.specs.Licensed.{NeedIsKnown, RowIsKnown}
 use Rattle.script_truths.specs.Kept.{SlotIsOf}
 
 -- what is one is true where the other is

@@ -1,22 +1,21 @@
 -- What an assignment that meets a script has over the universe.
-use Rattle.std.specs.Prelude.{◌≡◌, ℕ, zero, suc, List, [], ◌∷◌, Some, length}
-use Rattle.std.specs.Prelude.{slice_get, refl}
+use Rattle.std.specs.Prelude.{◌≡◌, ℕ, zero, suc, List, [], ◌∷◌, Some, length, slice_get, refl}
 use Rattle.std.specs.List.{AllByRecursion}
 use Rattle.std.proofs.Common.{sym, subst, ⊎_elim}
 use Rattle.fx_model.specs.declared.Node.{Node}
 use Rattle.fx_model.specs.Expression.{Assignment}
-use Rattle.theorem_list.specs.facts.declared.fact.Fact.{Fact}
-use Rattle.theorem_list.specs.facts.Holds.{Holds}
+use Rattle.pair_closure.specs.Members.{has_all}
+use Rattle.facts.specs.declared.fact.Fact.{Fact}
+use Rattle.facts.specs.Holds.{Holds}
 use Rattle.script_cases.specs.Met.{SomeOf, met_in_some_case}
-use Rattle.box_tree.specs.script_claims.declared.claim.Claim.{Claim}
-use Rattle.box_tree.specs.script_claims.Facts.{hypothesis_fact, facts_all}
-use Rattle.box_tree.specs.script_claims.Meets.{IsTrueAt}
-use Rattle.script_meets.specs.script_grammar.Spells.{View}
-use Rattle.script_meets.specs.script_grammar.Names.{ClaimIsOf, HintIsOf}
-use Rattle.universe.specs.pair_closure.Members.{has_all}
-use Rattle.universe.specs.rule_universe.Worlds.{World}
-use Rattle.universe.specs.rule_universe.Wholes.{all_contained}
-use Rattle.script_meets.specs.script_grammar.Cases.{cases_of}
+use Rattle.script_claims.specs.declared.claim.Claim.{Claim}
+use Rattle.script_claims.specs.Facts.{hypothesis_fact, facts_all}
+use Rattle.script_claims.specs.Meets.{IsTrueAt}
+use Rattle.script_grammar.specs.Spells.{View}
+use Rattle.script_grammar.specs.Names.{ClaimIsOf, HintIsOf}
+use Rattle.script_grammar.specs.Cases.{cases_of}
+use Rattle.rule_universe.specs.Worlds.{World}
+use Rattle.rule_universe.specs.Wholes.{all_contained}
 use Rattle.universe.specs.Cases.{each_has}
 use Rattle.script_truths.specs.Kept.{OfExtended, ClaimsAreKept, RowsAreKept}
 use Rattle.script_truths.specs.Truths.{AreTrue, SomeCaseIsMet, MetRowsAreTrue, HasUniverse}

@@ -3,8 +3,8 @@ use Rattle.std.specs.Prelude.{List, length, map}
 use Rattle.std.proofs.Common.{ap, ◌∙◌, subst}
 use Rattle.fx_model.specs.declared.Node.{Node}
 use Rattle.fx_model.specs.Expression.{IsOrdered, value}
-use Rattle.theorem_list.specs.expr_dag.Extended.{ValuesStay}
-use Rattle.universe.specs.pair_closure.Closure.{difference_of}
+use Rattle.expr_dag.specs.Extended.{ValuesStay}
+use Rattle.pair_closure.specs.Closure.{difference_of}
 use Rattle.script_truths.specs.Kept.{OfExtended, ValuesAreKept, FactsAreKept, LinesAreKept}
 use Rattle.script_truths.specs.Kept.{ClaimsAreKept, RowsAreKept}
 use Rattle.script_truths.specs.Truths.{UniversesExtend}

@@ -3,26 +3,26 @@ use Rattle.std.specs.Prelude.{◌≡◌, ℕ, List, [], ◌∷◌, Option, Some,
 use Rattle.std.specs.List.{AllByRecursion}
 use Rattle.std.proofs.Common.{subst}
 use Rattle.fx_model.specs.declared.ExprId.{ExprId}
-use Rattle.theorem_list.specs.interval.declared.interval.Interval.{Interval}
-use Rattle.theorem_list.specs.facts.declared.fact.Fact.{Fact}
-use Rattle.theorem_list.specs.facts.declared.fact.Fact.TheVariants as fact
-use Rattle.theorem_list.specs.facts.declared.place.FixPlace.{FixPlace}
-use Rattle.theorem_list.specs.facts.RelativeConclusions.{rel_of}
-use Rattle.theorem_list.specs.facts.declared.relative.RelativeError.{RelativeError}
-use Rattle.theorem_list.specs.facts.Order as order
-use Rattle.theorem_list.specs.facts.Parts.{error_of_part}
-use Rattle.theorem_list.specs.facts.Places.{place_from}
-use Rattle.theorem_list.specs.facts.Conclusions.{bnd_of, fix_of}
-use Rattle.box_tree.specs.goals.declared.goal.Goal.{Goal}
-use Rattle.box_tree.specs.script_bounds.Bounds.{written_range, outward_of}
-use Rattle.box_tree.specs.script_claims.declared.claim.Claim.{Claim}
-use Rattle.box_tree.specs.script_claims.declared.claim.Claim.TheVariants.{Bounded, Asked, Relative}
-use Rattle.box_tree.specs.script_claims.declared.claim.Claim.TheVariants.{RelativeAsked, Multiple}
-use Rattle.box_tree.specs.script_claims.declared.claim.Claim.TheVariants.{Above, Below}
-use Rattle.box_tree.specs.script_claims.Facts.{hypothesis_fact, facts_all, goal_of}
-use Rattle.script_meets.specs.script_grammar.Names.{IsNode, AreNodes, ClaimIsOf, HintIsOf}
-use Rattle.universe.specs.pair_closure.Members.{some-inj, has_all}
-use Rattle.universe.specs.rule_universe.Licensed.{RowIsKnown}
+use Rattle.interval.specs.declared.interval.Interval.{Interval}
+use Rattle.pair_closure.specs.Members.{some-inj, has_all}
+use Rattle.facts.specs.declared.fact.Fact.{Fact}
+use Rattle.facts.specs.declared.fact.Fact.TheVariants as fact
+use Rattle.facts.specs.declared.place.FixPlace.{FixPlace}
+use Rattle.facts.specs.RelativeConclusions.{rel_of}
+use Rattle.facts.specs.declared.relative.RelativeError.{RelativeError}
+use Rattle.facts.specs.Order as order
+use Rattle.facts.specs.Parts.{error_of_part}
+use Rattle.facts.specs.Places.{place_from}
+use Rattle.facts.specs.Conclusions.{bnd_of, fix_of}
+use Rattle.goals.specs.declared.goal.Goal.{Goal}
+use Rattle.script_bounds.specs.Bounds.{written_range, outward_of}
+use Rattle.script_claims.specs.declared.claim.Claim.{Claim}
+use Rattle.script_claims.specs.declared.claim.Claim.TheVariants.{Bounded, Asked, Relative}
+use Rattle.script_claims.specs.declared.claim.Claim.TheVariants.{RelativeAsked, Multiple, Above}
+use Rattle.script_claims.specs.declared.claim.Claim.TheVariants.{Below}
+use Rattle.script_claims.specs.Facts.{hypothesis_fact, facts_all, goal_of}
+use Rattle.script_grammar.specs.Names.{IsNode, AreNodes, ClaimIsOf, HintIsOf}
+use Rattle.rule_universe.specs.Licensed.{RowIsKnown}
 use Rattle.script_truths.specs.Kept.{SlotIsOf}
 use Rattle.script_truths.specs.Named.{FactsAreNamed, GoalsAreNamed, RowsAreNamed}
 use Rattle.script_truths.proofs.Rows.{all_from, hint_at, row_known}

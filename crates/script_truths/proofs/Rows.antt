@@ -1,6 +1,5 @@
 -- Rows of a script's hints are true over its nodes.
-use Rattle.std.specs.Prelude.{◌≡◌, ◌<◌, ℕ, suc, List, [], ◌∷◌, Some, slice_get, length, map}
-use Rattle.std.specs.Prelude.{refl}
+use Rattle.std.specs.Prelude.{◌≡◌, ◌<◌, ℕ, suc, List, [], ◌∷◌, Some, slice_get, length, map, refl}
 use Rattle.std.specs.List.{AllByRecursion}
 use Rattle.std.proofs.Common.{arith, subst, sym}
 use Rattle.std.proofs.lemmas.Option.{slice_get_within}
@@ -8,22 +7,22 @@ use Rattle.fx_model.specs.declared.ExprId.{ExprId}
 use Rattle.fx_model.specs.declared.Node.{Node}
 use Rattle.fx_model.specs.declared.Node.TheVariants as node
 use Rattle.fx_model.specs.Expression.{IsOrdered}
-use Rattle.theorem_list.specs.facts.declared.hint.HintRow.{HintRow}
-use Rattle.script_meets.specs.poly_normal.Mark.{EqualFormsHaveEqualValues}
-use Rattle.box_tree.specs.script_hints.declared.hint.Constraint.{Constraint}
-use Rattle.box_tree.specs.script_hints.declared.hint.Constraint.TheVariants as constraint
-use Rattle.box_tree.specs.script_hints.declared.hint.Hint.{Hint}
-use Rattle.box_tree.specs.script_hints.Needs.{need_of}
-use Rattle.box_tree.specs.script_hints.Meets.{MeetsHint}
-use Rattle.script_meets.specs.script_grammar.Names.{ConstraintIsOf, HintIsOf}
+use Rattle.poly_normal.specs.Mark.{EqualFormsHaveEqualValues}
+use Rattle.pair_closure.specs.Reached.{Has}
+use Rattle.pair_closure.specs.Members.{has_all, no_member}
+use Rattle.facts.specs.declared.hint.HintRow.{HintRow}
+use Rattle.facts.specs.CommonParts.{stands}
+use Rattle.script_hints.specs.declared.hint.Constraint.{Constraint}
+use Rattle.script_hints.specs.declared.hint.Constraint.TheVariants as constraint
+use Rattle.script_hints.specs.declared.hint.Hint.{Hint}
+use Rattle.script_hints.specs.Needs.{need_of}
+use Rattle.script_hints.specs.Meets.{MeetsHint}
+use Rattle.script_grammar.specs.Names.{ConstraintIsOf, HintIsOf}
 use Rattle.script_meets.specs.Meets.{HintsAreMet}
-use Rattle.universe.specs.pair_closure.Reached.{Has}
-use Rattle.universe.specs.pair_closure.Members.{has_all, no_member}
-use Rattle.universe.specs.rewrite_hints.Rows.{IsRowOf, RowsAreTrue, EqualSidesAreMet}
-use Rattle.universe.specs.rewrite_hints.Marks.{AreRows}
-use Rattle.universe.specs.rule_universe.Licensed.{NeedIsKnown, RowIsKnown, kid}
+use Rattle.rule_universe.specs.Licensed.{NeedIsKnown, RowIsKnown, kid}
+use Rattle.rewrite_hints.specs.Rows.{IsRowOf, RowsAreTrue, EqualSidesAreMet}
+use Rattle.rewrite_hints.specs.Marks.{AreRows}
 use Rattle.script_truths.specs.Truths.{CheckedRowsAreTrue, MetRowsAreTrue}
-use Rattle.theorem_list.specs.facts.CommonParts.{stands}
 
 -- ---- lists
 pub all_from : {A : Type 0} (P : A → Type 0) (xs : List A)

@@ -6,26 +6,26 @@ use Rattle.fx_model.specs.declared.ExprId.{ExprId}
 use Rattle.fx_model.specs.declared.Node.{Node}
 use Rattle.fx_model.specs.Enclosure.{Lies, within_in}
 use Rattle.fx_model.specs.Expression.{Assignment, value}
-use Rattle.theorem_list.specs.interval.declared.interval.Interval.{Interval}
-use Rattle.theorem_list.specs.interval.Intervals.{range_of}
-use Rattle.theorem_list.specs.facts.declared.fact.Fact.{Fact}
-use Rattle.theorem_list.specs.facts.declared.fact.Fact.TheVariants as fact
-use Rattle.theorem_list.specs.facts.Holds.{Holds, IsRelated}
-use Rattle.theorem_list.specs.facts.Held.{some-and, related-wider}
-use Rattle.theorem_list.specs.facts.Order.{IsWithin}
-use Rattle.theorem_list.specs.facts.Order as order
-use Rattle.box_tree.specs.goals.declared.goal.Want.{Want}
-use Rattle.box_tree.specs.goals.declared.goal.Want.TheVariants.{Ask, Inside}
-use Rattle.box_tree.specs.goals.Lies.{LiesAt, AreZeroAt}
-use Rattle.box_tree.specs.goals.Settles.{HasWanted}
-use Rattle.box_tree.specs.script_claims.declared.claim.Claim.{Claim}
-use Rattle.box_tree.specs.script_claims.declared.claim.Claim.TheVariants.{Bounded, Asked, Relative}
-use Rattle.box_tree.specs.script_claims.declared.claim.Claim.TheVariants.{RelativeAsked, Multiple}
-use Rattle.box_tree.specs.script_claims.declared.claim.Claim.TheVariants.{Above, Below}
-use Rattle.box_tree.specs.script_claims.Facts.{want_of, slot_of}
-use Rattle.box_tree.specs.script_claims.Meets.{IsTrueAt}
-use Rattle.script_meets.specs.script_grammar.Names.{ClaimIsOf}
-use Rattle.universe.specs.pair_closure.Members.{has_all}
+use Rattle.interval.specs.declared.interval.Interval.{Interval}
+use Rattle.interval.specs.Intervals.{range_of}
+use Rattle.pair_closure.specs.Members.{has_all}
+use Rattle.facts.specs.declared.fact.Fact.{Fact}
+use Rattle.facts.specs.declared.fact.Fact.TheVariants as fact
+use Rattle.facts.specs.Holds.{Holds, IsRelated}
+use Rattle.facts.specs.Held.{some-and, related-wider}
+use Rattle.facts.specs.Order.{IsWithin}
+use Rattle.facts.specs.Order as order
+use Rattle.goals.specs.declared.goal.Want.{Want}
+use Rattle.goals.specs.declared.goal.Want.TheVariants.{Ask, Inside}
+use Rattle.goals.specs.Lies.{LiesAt, AreZeroAt}
+use Rattle.goals.specs.Settles.{HasWanted}
+use Rattle.script_claims.specs.declared.claim.Claim.{Claim}
+use Rattle.script_claims.specs.declared.claim.Claim.TheVariants.{Bounded, Asked, Relative}
+use Rattle.script_claims.specs.declared.claim.Claim.TheVariants.{RelativeAsked, Multiple, Above}
+use Rattle.script_claims.specs.declared.claim.Claim.TheVariants.{Below}
+use Rattle.script_claims.specs.Facts.{want_of, slot_of}
+use Rattle.script_claims.specs.Meets.{IsTrueAt}
+use Rattle.script_grammar.specs.Names.{ClaimIsOf}
 use Rattle.script_truths.specs.Kept.{OfExtended, SlotIsOf, ClaimsAreKept, LinesAreKept}
 use Rattle.script_truths.specs.Truths.{UniversesExtend, OfUniverses, SettledGoalsAreTrue}
 use Rattle.script_truths.specs.Truths.{GoalLinesHold}

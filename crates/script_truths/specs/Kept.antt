@@ -3,19 +3,19 @@ use Rattle.std.specs.Prelude.{◌≡◌, ◌↔◌, ◌++◌, ⊤, ℕ, List, le
 use Rattle.fx_model.specs.declared.ExprId.{ExprId}
 use Rattle.fx_model.specs.declared.Node.{Node}
 use Rattle.fx_model.specs.Expression.{Assignment, IsOrdered, value}
-use Rattle.theorem_list.specs.facts.declared.fact.Fact.{Fact}
-use Rattle.theorem_list.specs.facts.declared.fact.Slot.{Slot}
-use Rattle.theorem_list.specs.facts.declared.fact.Slot.TheVariants as slot
-use Rattle.theorem_list.specs.facts.declared.hint.HintRow.{HintRow}
-use Rattle.theorem_list.specs.facts.Holds.{Holds}
-use Rattle.theorem_list.specs.facts.Order.{slot_of}
-use Rattle.theorem_list.specs.facts.Rows.{RowIsTrue}
-use Rattle.box_tree.specs.goals.declared.line.Line.{Line}
-use Rattle.box_tree.specs.goals.Holds.{LineHolds}
-use Rattle.box_tree.specs.script_claims.declared.claim.Claim.{Claim}
-use Rattle.box_tree.specs.script_claims.Meets.{IsTrueAt}
-use Rattle.script_meets.specs.script_grammar.Names.{IsNode, AreNodes, ClaimIsOf}
-use Rattle.universe.specs.rule_universe.Licensed.{RowIsKnown}
+use Rattle.facts.specs.declared.fact.Fact.{Fact}
+use Rattle.facts.specs.declared.fact.Slot.{Slot}
+use Rattle.facts.specs.declared.fact.Slot.TheVariants as slot
+use Rattle.facts.specs.declared.hint.HintRow.{HintRow}
+use Rattle.facts.specs.Holds.{Holds}
+use Rattle.facts.specs.Order.{slot_of}
+use Rattle.facts.specs.Rows.{RowIsTrue}
+use Rattle.goals.specs.declared.line.Line.{Line}
+use Rattle.goals.specs.Holds.{LineHolds}
+use Rattle.script_claims.specs.declared.claim.Claim.{Claim}
+use Rattle.script_claims.specs.Meets.{IsTrueAt}
+use Rattle.script_grammar.specs.Names.{IsNode, AreNodes, ClaimIsOf}
+use Rattle.rule_universe.specs.Licensed.{RowIsKnown}
 
 -- The second list is the first with more nodes behind it; each node of both is made of earlier
 -- ones.

@@ -2,15 +2,15 @@
 use Rattle.std.specs.Prelude.{List, map, length}
 use Rattle.std.specs.List.{AllByRecursion}
 use Rattle.fx_model.specs.Expression.{IsOrdered}
-use Rattle.box_tree.specs.script_claims.Facts.{goal_of, facts_of}
-use Rattle.theorem_list.specs.facts.declared.fact.Fact.{Fact}
-use Rattle.theorem_list.specs.facts.declared.hint.HintRow.{HintRow}
-use Rattle.theorem_list.specs.facts.Order.{slot_of}
-use Rattle.box_tree.specs.goals.declared.goal.Goal.{Goal}
-use Rattle.script_meets.specs.script_grammar.Spells.{View}
-use Rattle.script_meets.specs.script_grammar.Names.{NamesNodes}
-use Rattle.universe.specs.rewrite_hints.Marks.{AreRows}
-use Rattle.universe.specs.rule_universe.Licensed.{RowIsKnown}
+use Rattle.facts.specs.declared.fact.Fact.{Fact}
+use Rattle.facts.specs.declared.hint.HintRow.{HintRow}
+use Rattle.facts.specs.Order.{slot_of}
+use Rattle.goals.specs.declared.goal.Goal.{Goal}
+use Rattle.script_claims.specs.Facts.{goal_of, facts_of}
+use Rattle.script_grammar.specs.Spells.{View}
+use Rattle.script_grammar.specs.Names.{NamesNodes}
+use Rattle.rule_universe.specs.Licensed.{RowIsKnown}
+use Rattle.rewrite_hints.specs.Marks.{AreRows}
 use Rattle.script_truths.specs.Kept.{SlotIsOf}
 
 -- The facts of hypotheses are about nodes of the script;

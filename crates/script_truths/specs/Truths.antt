@@ -3,27 +3,27 @@ use Rattle.std.specs.Prelude.{◌≡◌, ℕ, List, [], Some, Contains, length, 
 use Rattle.std.specs.List.{AllByRecursion}
 use Rattle.fx_model.specs.declared.Node.{Node}
 use Rattle.fx_model.specs.Expression.{Assignment, IsOrdered, value}
-use Rattle.theorem_list.specs.facts.declared.fact.Fact.{Fact}
-use Rattle.theorem_list.specs.facts.declared.hint.HintMark.TheVariants.{Checked}
-use Rattle.theorem_list.specs.facts.declared.hint.HintRow.{HintRow}
-use Rattle.theorem_list.specs.facts.Holds.{Holds}
-use Rattle.theorem_list.specs.facts.Rows.{RowIsTrue}
-use Rattle.box_tree.specs.goals.Settles.{Settles}
-use Rattle.box_tree.specs.goals.Holds.{LineHolds}
-use Rattle.box_tree.specs.goals.declared.line.Line.{Line}
-use Rattle.box_tree.specs.script_claims.declared.claim.Claim.{Claim}
-use Rattle.box_tree.specs.script_claims.Facts.{slot_of, goal_of, facts_of}
-use Rattle.box_tree.specs.script_claims.Meets.{IsTrueAt}
-use Rattle.box_tree.specs.script_hints.declared.hint.Hint.{Hint}
-use Rattle.script_meets.specs.script_grammar.Spells.{View}
-use Rattle.script_meets.specs.script_grammar.Names.{HintIsOf, NamesNodes}
-use Rattle.script_meets.specs.Meets.{Meets}
-use Rattle.universe.specs.pair_closure.Reached.{Has}
-use Rattle.universe.specs.rewrite_hints.Rows.{IsRowOf}
-use Rattle.universe.specs.rewrite_hints.Marks.{IsMarkOf, AreRows}
+use Rattle.pair_closure.specs.Reached.{Has}
+use Rattle.facts.specs.declared.fact.Fact.{Fact}
+use Rattle.facts.specs.declared.hint.HintMark.TheVariants.{Checked}
+use Rattle.facts.specs.declared.hint.HintRow.{HintRow}
+use Rattle.facts.specs.Holds.{Holds}
+use Rattle.facts.specs.Rows.{RowIsTrue}
+use Rattle.goals.specs.Settles.{Settles}
+use Rattle.goals.specs.Holds.{LineHolds}
+use Rattle.goals.specs.declared.line.Line.{Line}
 use Rattle.theorem_list.specs.Promises.{RowsAreTrue}
-use Rattle.universe.specs.rule_universe.Worlds.{World}
-use Rattle.script_meets.specs.script_grammar.Cases.{cases_of}
+use Rattle.script_claims.specs.declared.claim.Claim.{Claim}
+use Rattle.script_claims.specs.Facts.{slot_of, goal_of, facts_of}
+use Rattle.script_claims.specs.Meets.{IsTrueAt}
+use Rattle.script_hints.specs.declared.hint.Hint.{Hint}
+use Rattle.script_grammar.specs.Spells.{View}
+use Rattle.script_grammar.specs.Names.{HintIsOf, NamesNodes}
+use Rattle.script_grammar.specs.Cases.{cases_of}
+use Rattle.script_meets.specs.Meets.{Meets}
+use Rattle.rule_universe.specs.Worlds.{World}
+use Rattle.rewrite_hints.specs.Rows.{IsRowOf}
+use Rattle.rewrite_hints.specs.Marks.{IsMarkOf, AreRows}
 use Rattle.universe.specs.Universes.{IsUniverse}
 use Rattle.box_tree.specs.Root.{plan_by}
 use Rattle.box_tree.specs.Covers.{LieInBox}

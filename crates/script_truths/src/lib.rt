@@ -2,15 +2,7 @@
 //! universe.
 #![tactic(auto)]
 
-// What callers name of the crates below.
-pub use script_meets::Script;
-pub use universe::{
-    Universe, UniverseFault, assume, build, classify, hypotheses_have_slots, universes_are_one,
-};
 
 mod laws;
 
-pub use laws::{
-    goals_are_true, nodes_keep_what_is_said, some_case_is_met, universes_extend,
-    what_is_given_is_true, what_is_written_is_true, what_is_written_names_nodes,
-};
+pub use laws::{goals_are_true, nodes_keep_what_is_said, some_case_is_met, universes_extend, what_is_given_is_true, what_is_written_is_true, what_is_written_names_nodes};

@@ -1,12 +1,12 @@
 -- Each text has a list of tokens.
-use Rattle.std.proofs.Common.{◌≡◌, ℕ, zero, suc, ◌+◌, ◌<◌, ◌≤◌, ◌==◌, ◌||◌, not, false}
-use Rattle.std.proofs.Common.{true, Bool, List, [], ◌∷◌, length, drop, Option, Some, None}
-use Rattle.std.proofs.Common.{refl, arith, length-drop, if◌then◌else◌, ⊎_elim}
+use Rattle.std.proofs.Common.{◌≡◌, ℕ, zero, suc, ◌+◌, ◌<◌, ◌≤◌, ◌==◌, ◌||◌, not, false, true, Bool}
+use Rattle.std.proofs.Common.{List, [], ◌∷◌, length, drop, Option, Some, None, refl, arith}
+use Rattle.std.proofs.Common.{length-drop, if◌then◌else◌, ⊎_elim}
 use Rattle.std.proofs.lemmas.Bool.{cases_lt}
 use Rattle.script_words.specs.declared.lex.TokenKind.{TokenKind}
 use Rattle.script_words.specs.declared.lex.Token.{Token}
-use Rattle.script_words.specs.Lex.{is_blank, blank_len, front, Lexes, ends}
-use Rattle.script_words.specs.Lex.{bad, token, LexesAll, TokensAreFew}
+use Rattle.script_words.specs.Lex.{is_blank, blank_len, front, Lexes, ends, bad, token, LexesAll}
+use Rattle.script_words.specs.Lex.{TokensAreFew}
 use Rattle.script_words.specs.Fronts.{front_some}
 
 -- ---- each token has a byte or more, so a shorter text is behind the first

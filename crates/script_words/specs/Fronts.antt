@@ -1,7 +1,6 @@
 -- A token has a byte or more.
-use Rattle.std.proofs.Common.{◌≡◌, ℕ, ◌+◌, ◌<◌, ◌≤◌, nat_lt, false}
-use Rattle.std.proofs.Common.{true, Bool, List, [], ◌∷◌, drop, take, Option, Some, None}
-use Rattle.std.proofs.Common.{refl, ap, subst, arith, if◌then◌else◌}
+use Rattle.std.proofs.Common.{◌≡◌, ℕ, ◌+◌, ◌<◌, ◌≤◌, nat_lt, false, true, Bool, List, [], ◌∷◌, drop}
+use Rattle.std.proofs.Common.{take, Option, Some, None, refl, ap, subst, arith, if◌then◌else◌}
 use Rattle.std.proofs.lemmas.Bool.{ltb-true}
 use Rattle.script_words.specs.declared.class.Symbol.{Symbol}
 use Rattle.script_words.specs.declared.lex.Run.{Run}

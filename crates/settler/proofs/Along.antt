@@ -2,16 +2,16 @@
 use Rattle.std.specs.Prelude.{◌≡◌, ℕ, List, [], ◌∷◌, ◌++◌, Option, Some, Result, Ok, Err, IfOk}
 use Rattle.std.specs.Borrow.{Bor}
 use Rattle.std.proofs.Common.{sym, ◌∙◌, ap, subst}
-use Rattle.case_trees.specs.box_tree.Regions.{PlanParts}
-use Rattle.case_trees.specs.box_tree.Plans.{piece_at, pieces_at, with_last}
-use Rattle.saturate.specs.derivation.Known.{Piece, IsTableAt}
-use Rattle.saturate.specs.derivation.Settled.{IsState}
-use Rattle.saturate.specs.rule_universe.Worlds.{World}
+use Rattle.derivation.specs.Known.{Piece, IsTableAt}
+use Rattle.derivation.specs.Settled.{IsState}
+use Rattle.rule_universe.specs.Worlds.{World}
 use Rattle.saturate.specs.declared.kept.Table.{Table}
 use Rattle.saturate.specs.Tables.{fact_at}
 use Rattle.saturate.specs.Universes.{setting_of}
 use Rattle.saturate.specs.declared.settled.Settled.{Settled}
 use Rattle.saturate.specs.Boxes.{IsBox, IsItsTable, IsItsState, table_of, state_of}
+use Rattle.box_tree.specs.Regions.{PlanParts}
+use Rattle.box_tree.specs.Plans.{piece_at, pieces_at, with_last}
 
 -- with another universe and another height that are the same
 pub in_frame : (P : World → ℕ → Type 0) (u v : World) (h k : ℕ) → u ≡ v → h ≡ k → P u h → P v k

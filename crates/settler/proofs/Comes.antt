@@ -3,26 +3,26 @@ use Rattle.std.specs.Prelude.{List, [], ◌∷◌}
 use Rattle.std.proofs.Common.{subst}
 use Rattle.fx_model.specs.Expression.{IsOrdered}
 use Rattle.fx_model.specs.declared.Node.{Node}
-use Rattle.saturate.specs.facts.declared.hint.HintRow.{HintRow}
-use Rattle.saturate.specs.goals.Stronger.{StrongerSettles}
-use Rattle.case_trees.specs.script_claims.declared.claim.Claim.{Claim}
-use Rattle.case_trees.specs.script_claims.Facts.{facts_of}
-use Rattle.script_truths.specs.script_grammar.Spells.{View}
-use Rattle.script_truths.specs.script_grammar.Names.{NamesNodes}
-use Rattle.script_truths.specs.Truths.{HasUniverse}
-use Rattle.saturate.specs.rule_universe.Worlds.{World}
-use Rattle.saturate.specs.rule_universe.Assumed.{assuming}
-use Rattle.script_truths.specs.script_grammar.Cases.{cases_of}
-use Rattle.script_truths.specs.universe.Universes.{IsUniverse, IsTooLarge, assumed}
-use Rattle.saturate.specs.derivation.Derivations.{IsClosed}
-use Rattle.saturate.specs.derivation.Lists.{IsLawful}
-use Rattle.saturate.specs.derivation.Laws.{TablesExist, BoxesComeToOneState}
-use Rattle.saturate.specs.theorem_list.Concludes.{concludes}
+use Rattle.facts.specs.declared.hint.HintRow.{HintRow}
+use Rattle.goals.specs.Stronger.{StrongerSettles}
+use Rattle.theorem_list.specs.Concludes.{concludes}
+use Rattle.script_claims.specs.declared.claim.Claim.{Claim}
+use Rattle.script_claims.specs.Facts.{facts_of}
+use Rattle.script_grammar.specs.Spells.{View}
+use Rattle.script_grammar.specs.Names.{NamesNodes}
+use Rattle.script_grammar.specs.Cases.{cases_of}
+use Rattle.derivation.specs.Derivations.{IsClosed}
+use Rattle.derivation.specs.Lists.{IsLawful}
+use Rattle.derivation.specs.Laws.{TablesExist, BoxesComeToOneState}
+use Rattle.rule_universe.specs.Worlds.{World}
+use Rattle.rule_universe.specs.Assumed.{assuming}
 use Rattle.saturate.specs.Universes.{setting_of}
-use Rattle.case_trees.specs.box_tree.Plans.{cut_at, pieces_at}
-use Rattle.case_trees.specs.bisect.Trees.{tree_of}
+use Rattle.universe.specs.Universes.{IsUniverse, IsTooLarge, assumed}
+use Rattle.box_tree.specs.Plans.{cut_at, pieces_at}
+use Rattle.bisect.specs.Trees.{tree_of}
 use Rattle.case_trees.specs.declared.outcome.CaseOutcome.{CaseOutcome}
 use Rattle.case_trees.specs.Answers.{IsAnswerOfAll}
+use Rattle.script_truths.specs.Truths.{HasUniverse}
 use Rattle.settler.specs.declared.cases.Case.{Case}
 use Rattle.settler.specs.Answers.{Options, plan_of, IsTreeOf, AreTrees, ComesTo}
 use Rattle.settler.specs.Cases.{IsCaseOf, AreCases, LawfulCasesHold, tree_in, trees_in}

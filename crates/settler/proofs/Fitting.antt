@@ -4,13 +4,13 @@ use Rattle.std.specs.Prelude.{slice_get}
 use Rattle.std.specs.Option.{IsSomeAnd}
 use Rattle.std.proofs.Common.{◌∙◌, ap}
 use Rattle.fx_model.specs.declared.ExprId.{ExprId}
-use Rattle.saturate.specs.facts.declared.fact.Fact.{Fact}
-use Rattle.saturate.specs.facts.declared.fact.Fact.TheVariants as fact
-use Rattle.case_trees.specs.script_claims.declared.claim.Claim.{Claim}
-use Rattle.case_trees.specs.script_claims.Facts.{hypothesis_fact, with_fact, facts_of}
-use Rattle.case_trees.specs.box_tree.Root.{IsBounded}
-use Rattle.saturate.specs.derivation.Known.{Piece}
-use Rattle.saturate.specs.rule_universe.Worlds.{World, IsWhole}
+use Rattle.facts.specs.declared.fact.Fact.{Fact}
+use Rattle.facts.specs.declared.fact.Fact.TheVariants as fact
+use Rattle.script_claims.specs.declared.claim.Claim.{Claim}
+use Rattle.script_claims.specs.Facts.{hypothesis_fact, with_fact, facts_of}
+use Rattle.derivation.specs.Known.{Piece}
+use Rattle.rule_universe.specs.Worlds.{World, IsWhole}
+use Rattle.box_tree.specs.Root.{IsBounded}
 
 -- what a claim gives is among what all give
 among : (claims : List Claim) (k : ℕ) (c : Claim) (f : Fact) → slice_get claims k ≡ Some c

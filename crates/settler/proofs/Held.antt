@@ -2,21 +2,21 @@
 use Rattle.std.specs.Prelude.{◌≡◌, ℕ, List}
 use Rattle.std.proofs.Common.{sym, subst}
 use Rattle.fx_model.specs.Expression.{Assignment}
-use Rattle.saturate.specs.facts.declared.fact.Fact.{Fact}
-use Rattle.saturate.specs.facts.declared.fact.Fact.TheVariants as fact
-use Rattle.saturate.specs.facts.Holds.{Holds}
-use Rattle.saturate.specs.derivation.Known.{Known}
+use Rattle.facts.specs.declared.fact.Fact.{Fact}
+use Rattle.facts.specs.declared.fact.Fact.TheVariants as fact
+use Rattle.facts.specs.Holds.{Holds}
+use Rattle.derivation.specs.Known.{Known}
+use Rattle.rule_universe.specs.Worlds.{World}
+use Rattle.saturate.specs.Universes.{setting_of}
+use Rattle.universe.specs.Universes.{UniversesAreOne}
+use Rattle.box_tree.specs.Plans.{pieces_at}
+use Rattle.box_tree.specs.Regions.{PlanParts}
+use Rattle.bisect.specs.declared.settler.State.{State}
+use Rattle.bisect.specs.declared.settler.State.TheVariants as state
+use Rattle.bisect.specs.Trees.{Tree, IsLeaf}
+use Rattle.bisect.specs.Boxes.{HasNoOpenLeaf}
 use Rattle.script_truths.specs.Truths.{HasUniverse, WhereMet, HypothesesHold, HintsAreTrue}
 use Rattle.script_truths.specs.Truths.{LiesInWholeBox}
-use Rattle.saturate.specs.rule_universe.Worlds.{World}
-use Rattle.script_truths.specs.universe.Universes.{UniversesAreOne}
-use Rattle.saturate.specs.Universes.{setting_of}
-use Rattle.case_trees.specs.box_tree.Plans.{pieces_at}
-use Rattle.case_trees.specs.box_tree.Regions.{PlanParts}
-use Rattle.case_trees.specs.bisect.declared.settler.State.{State}
-use Rattle.case_trees.specs.bisect.declared.settler.State.TheVariants as state
-use Rattle.case_trees.specs.bisect.Trees.{Tree, IsLeaf}
-use Rattle.case_trees.specs.bisect.Boxes.{HasNoOpenLeaf}
 use Rattle.settler.specs.Standing.{StandsAs}
 use Rattle.settler.specs.Answers.{plan_of, tree_by}
 use Rattle.settler.specs.Cases.{LawfulCasesHold}

@@ -1,12 +1,12 @@
 -- A script of one case comes to what its tree comes to.
 use Rattle.std.specs.Prelude.{List, [], ◌∷◌}
 use Rattle.std.proofs.Common.{subst}
-use Rattle.case_trees.specs.script_claims.declared.claim.Claim.{Claim}
-use Rattle.script_truths.specs.script_grammar.Spells.{View}
-use Rattle.case_trees.specs.bisect.declared.outcome.Outcome.{Outcome}
-use Rattle.case_trees.specs.bisect.declared.outcome.Outcome.TheVariants as outcome
-use Rattle.case_trees.specs.bisect.Answers.{IsAnswer}
-use Rattle.case_trees.specs.bisect.Trees.{Tree}
+use Rattle.script_claims.specs.declared.claim.Claim.{Claim}
+use Rattle.script_grammar.specs.Spells.{View}
+use Rattle.bisect.specs.declared.outcome.Outcome.{Outcome}
+use Rattle.bisect.specs.declared.outcome.Outcome.TheVariants as outcome
+use Rattle.bisect.specs.Answers.{IsAnswer}
+use Rattle.bisect.specs.Trees.{Tree}
 use Rattle.case_trees.specs.Answers.{IsAnswerOfAll, of_one}
 use Rattle.case_trees.specs.Laws.{OneIsAll}
 use Rattle.settler.specs.Answers.{Options, AreTrees}

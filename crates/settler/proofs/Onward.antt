@@ -3,19 +3,19 @@ use Rattle.std.specs.Prelude.{◌≡◌, ◌≢◌, ◌≤◌, ◌+◌, ℕ, zer
 use Rattle.std.specs.Prelude.{slice_get, refl}
 use Rattle.std.specs.List.{AllByRecursion}
 use Rattle.std.proofs.Common.{arith, sym, ◌∙◌, ap, subst}
-use Rattle.case_trees.specs.script_claims.declared.claim.Claim.{Claim}
-use Rattle.case_trees.specs.script_claims.Facts.{facts_of}
-use Rattle.script_truths.specs.script_grammar.Spells.{View}
-use Rattle.saturate.specs.rule_universe.Worlds.{World}
-use Rattle.saturate.specs.rule_universe.Assumed.{assuming}
-use Rattle.case_trees.specs.box_tree.declared.cut.Cut.{Cut}
-use Rattle.case_trees.specs.box_tree.Pieces.{piece_count}
-use Rattle.case_trees.specs.box_tree.Plans.{cut_at}
-use Rattle.case_trees.specs.bisect.declared.settler.State.{State}
-use Rattle.case_trees.specs.bisect.declared.outcome.Outcome.{Outcome}
-use Rattle.case_trees.specs.bisect.declared.outcome.Outcome.TheVariants as outcome
-use Rattle.case_trees.specs.bisect.Trees.{tree_of}
-use Rattle.case_trees.specs.bisect.Answers.{IsAnswer}
+use Rattle.script_claims.specs.declared.claim.Claim.{Claim}
+use Rattle.script_claims.specs.Facts.{facts_of}
+use Rattle.script_grammar.specs.Spells.{View}
+use Rattle.rule_universe.specs.Worlds.{World}
+use Rattle.rule_universe.specs.Assumed.{assuming}
+use Rattle.box_tree.specs.declared.cut.Cut.{Cut}
+use Rattle.box_tree.specs.Pieces.{piece_count}
+use Rattle.box_tree.specs.Plans.{cut_at}
+use Rattle.bisect.specs.declared.settler.State.{State}
+use Rattle.bisect.specs.declared.outcome.Outcome.{Outcome}
+use Rattle.bisect.specs.declared.outcome.Outcome.TheVariants as outcome
+use Rattle.bisect.specs.Trees.{tree_of}
+use Rattle.bisect.specs.Answers.{IsAnswer}
 use Rattle.case_trees.specs.declared.outcome.CaseOutcome.{CaseOutcome}
 use Rattle.case_trees.specs.declared.outcome.CaseOutcome.TheVariants as cases
 use Rattle.case_trees.specs.Gathered.{Seen, HasBoxes, EndsAs, IsWithin, boxes_left, with_outcome}

@@ -1,13 +1,13 @@
 -- The open leaf that is named is the first.
 use Rattle.std.specs.Prelude.{◌≡◌, ℕ, zero, suc, List, [], ◌∷◌, Some, slice_get, refl}
 use Rattle.std.proofs.Common.{subst}
-use Rattle.saturate.specs.derivation.Laws.{BoxesComeToOneState}
-use Rattle.case_trees.specs.script_claims.declared.claim.Claim.{Claim}
-use Rattle.script_truths.specs.script_grammar.Spells.{View}
-use Rattle.script_truths.specs.script_grammar.Cases.{cases_of}
-use Rattle.script_truths.specs.universe.Universes.{UniversesAreOne}
-use Rattle.case_trees.specs.bisect.Trees.{Tree}
-use Rattle.case_trees.specs.bisect.Boxes.{HasNoOpenLeaf}
+use Rattle.script_claims.specs.declared.claim.Claim.{Claim}
+use Rattle.script_grammar.specs.Spells.{View}
+use Rattle.script_grammar.specs.Cases.{cases_of}
+use Rattle.derivation.specs.Laws.{BoxesComeToOneState}
+use Rattle.universe.specs.Universes.{UniversesAreOne}
+use Rattle.bisect.specs.Trees.{Tree}
+use Rattle.bisect.specs.Boxes.{HasNoOpenLeaf}
 use Rattle.case_trees.specs.Laws.{FirstIsFirst, HaveOneAnswer}
 use Rattle.settler.specs.Answers.{Options, IsTreeOf, AreTrees}
 use Rattle.settler.specs.Open.{OpenLeavesAreFirst}

@@ -2,17 +2,17 @@
 use Rattle.std.specs.Prelude.{◌≡◌, ℕ, zero, suc, List, [], ◌∷◌, length, Some, slice_get, refl}
 use Rattle.std.proofs.Common.{◌∙◌, ap, subst}
 use Rattle.std.proofs.lemmas.Option.{slice_get_within}
-use Rattle.saturate.specs.goals.declared.line.Line.{Line}
-use Rattle.saturate.specs.goals.Holds.{LineHolds}
-use Rattle.saturate.specs.goals.Stronger.{AreOfGoals}
-use Rattle.case_trees.specs.script_claims.declared.claim.Claim.{Claim}
-use Rattle.case_trees.specs.script_claims.Facts.{slot_of, goal_of}
-use Rattle.script_truths.specs.script_grammar.Spells.{View}
-use Rattle.saturate.specs.rule_universe.Worlds.{World}
-use Rattle.script_truths.specs.script_grammar.Cases.{cases_of}
-use Rattle.case_trees.specs.bisect.Trees.{Tree}
-use Rattle.case_trees.specs.bisect.Boxes.{HasNoOpenLeaf}
-use Rattle.case_trees.specs.bisect.Gathered.{line_of}
+use Rattle.goals.specs.declared.line.Line.{Line}
+use Rattle.goals.specs.Holds.{LineHolds}
+use Rattle.goals.specs.Stronger.{AreOfGoals}
+use Rattle.script_claims.specs.declared.claim.Claim.{Claim}
+use Rattle.script_claims.specs.Facts.{slot_of, goal_of}
+use Rattle.script_grammar.specs.Spells.{View}
+use Rattle.script_grammar.specs.Cases.{cases_of}
+use Rattle.rule_universe.specs.Worlds.{World}
+use Rattle.bisect.specs.Trees.{Tree}
+use Rattle.bisect.specs.Boxes.{HasNoOpenLeaf}
+use Rattle.bisect.specs.Gathered.{line_of}
 use Rattle.case_trees.specs.Listed.{Listed, all_leaves}
 use Rattle.case_trees.specs.Laws.{NoneIsOpen, LinesHoldOfEach}
 use Rattle.script_truths.specs.Truths.{SomeCaseIsMet, OfUniverses, SettledGoalsAreTrue}

@@ -1,29 +1,29 @@
 -- A box stands in one way, which its best table decides.
 use Rattle.std.specs.Prelude.{◌≡◌, ℕ, zero, suc, List, [], ◌∷◌, Option, Some, None, slice_get, refl}
 use Rattle.std.proofs.Common.{sym, ◌∙◌, ap, ap₂, subst, inl, inr}
-use Rattle.saturate.specs.facts.declared.fact.Fact.{Fact}
-use Rattle.saturate.specs.facts.declared.fact.Slot.{Slot}
-use Rattle.saturate.specs.facts.declared.fact.Fact.TheVariants as fact
-use Rattle.saturate.specs.facts.declared.fact.Slot.TheVariants as slot
-use Rattle.saturate.specs.facts.Order.{IsStronger}
-use Rattle.saturate.specs.facts.Meets.{IsStronger-antisymm}
-use Rattle.saturate.specs.goals.declared.goal.Goal.{Goal}
-use Rattle.saturate.specs.goals.Settles.{Settles}
-use Rattle.saturate.specs.goals.Stronger.{StrongerSettles}
-use Rattle.saturate.specs.derivation.Derivations.{Setting, At, IsClosed}
-use Rattle.saturate.specs.derivation.Lists.{IsLawful}
-use Rattle.saturate.specs.derivation.Known.{Piece, Known, IsTableAt}
-use Rattle.saturate.specs.derivation.Settled.{IsSettled, IsState}
-use Rattle.saturate.specs.derivation.Settled as box
-use Rattle.saturate.specs.derivation.Decided.{state_in}
-use Rattle.saturate.specs.derivation.Parts.{some_same}
-use Rattle.saturate.specs.derivation.Exists.{table_at}
-use Rattle.saturate.specs.derivation.Laws.{TablesExist, BoxesComeToOneState}
-use Rattle.case_trees.specs.bisect.declared.settler.State.{State}
-use Rattle.case_trees.specs.bisect.declared.settler.State.TheVariants as state
+use Rattle.facts.specs.declared.fact.Fact.{Fact}
+use Rattle.facts.specs.declared.fact.Slot.{Slot}
+use Rattle.facts.specs.declared.fact.Fact.TheVariants as fact
+use Rattle.facts.specs.declared.fact.Slot.TheVariants as slot
+use Rattle.facts.specs.Order.{IsStronger}
+use Rattle.facts.specs.Meets.{IsStronger-antisymm}
+use Rattle.facts.specs.CommonParts.{void_is}
+use Rattle.goals.specs.declared.goal.Goal.{Goal}
+use Rattle.goals.specs.Settles.{Settles}
+use Rattle.goals.specs.Stronger.{StrongerSettles}
+use Rattle.derivation.specs.Derivations.{Setting, At, IsClosed}
+use Rattle.derivation.specs.Lists.{IsLawful}
+use Rattle.derivation.specs.Known.{Piece, Known, IsTableAt}
+use Rattle.derivation.specs.Settled.{IsSettled, IsState}
+use Rattle.derivation.specs.Settled as box
+use Rattle.derivation.specs.Decided.{state_in}
+use Rattle.derivation.specs.Parts.{some_same}
+use Rattle.derivation.specs.Exists.{table_at}
+use Rattle.derivation.specs.Laws.{TablesExist, BoxesComeToOneState}
+use Rattle.bisect.specs.declared.settler.State.{State}
+use Rattle.bisect.specs.declared.settler.State.TheVariants as state
 use Rattle.settler.specs.Standing.{IsBestKnown, AreSettledBy, StandsAs}
 use Rattle.settler.specs.Decided.{with_found, goal_facts, state_with, standing_at}
-use Rattle.saturate.specs.facts.CommonParts.{void_is}
 
 -- ---- in one way
 best_once : (u : Setting) (height : ℕ) (pieces : List Piece) (s : Slot) (f g : Fact)

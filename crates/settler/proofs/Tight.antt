@@ -4,33 +4,33 @@ use Rattle.std.specs.Prelude.{Option, Some, None, slice_get, Contains, refl}
 use Rattle.std.proofs.Common.{sym, ◌∙◌, ap, subst, arith}
 use Rattle.std.proofs.lemmas.Option.{slice_get_within, get_or_from_slice_get, slice_get_read}
 use Rattle.std.proofs.lemmas.List.FromFn.{get_or-map-range_with_len, length-map-range_with_len}
-use Rattle.saturate.specs.facts.declared.fact.Fact.{Fact}
-use Rattle.saturate.specs.goals.declared.goal.Goal.{Goal}
-use Rattle.saturate.specs.goals.declared.line.Line.{Line}
-use Rattle.saturate.specs.goals.declared.line.Line.TheVariants as line
-use Rattle.saturate.specs.goals.Settles.{Settles}
-use Rattle.case_trees.specs.script_claims.declared.claim.Claim.{Claim}
-use Rattle.case_trees.specs.script_claims.Facts.{goal_of}
-use Rattle.script_truths.specs.script_grammar.Spells.{View}
-use Rattle.saturate.specs.pair_closure.Reached.{Has}
-use Rattle.saturate.specs.derivation.Derivations.{Setting}
-use Rattle.saturate.specs.derivation.Known.{Piece}
-use Rattle.saturate.specs.rule_universe.Worlds.{World}
-use Rattle.script_truths.specs.script_grammar.Cases.{cases_of}
+use Rattle.pair_closure.specs.Reached.{Has}
+use Rattle.facts.specs.declared.fact.Fact.{Fact}
+use Rattle.goals.specs.declared.goal.Goal.{Goal}
+use Rattle.goals.specs.declared.line.Line.{Line}
+use Rattle.goals.specs.declared.line.Line.TheVariants as line
+use Rattle.goals.specs.Settles.{Settles}
+use Rattle.script_claims.specs.declared.claim.Claim.{Claim}
+use Rattle.script_claims.specs.Facts.{goal_of}
+use Rattle.script_grammar.specs.Spells.{View}
+use Rattle.script_grammar.specs.Cases.{cases_of}
+use Rattle.derivation.specs.Derivations.{Setting}
+use Rattle.derivation.specs.Known.{Piece}
+use Rattle.rule_universe.specs.Worlds.{World}
 use Rattle.saturate.specs.Universes.{setting_of}
-use Rattle.case_trees.specs.box_tree.Plans.{pieces_at}
-use Rattle.case_trees.specs.box_tree.Regions.{PlanParts}
-use Rattle.case_trees.specs.bisect.declared.settler.State.{State}
-use Rattle.case_trees.specs.bisect.declared.settler.State.TheVariants as state
-use Rattle.case_trees.specs.bisect.declared.outcome.Leaf.{Leaf}
-use Rattle.case_trees.specs.bisect.Trees.{Tree, child_count, IsLeaf}
-use Rattle.case_trees.specs.bisect.Boxes.{AreBoxes, first_open, leaves_of, leaf_at, with_leaf}
-use Rattle.case_trees.specs.bisect.Boxes.{open_goal, or_later, not_some, later_none}
-use Rattle.case_trees.specs.bisect.Gathered.{with_known, with_state, line_with, line_of, lines_of}
-use Rattle.settler.specs.Standing.{IsBestKnown, AreSettledBy, StandsAs, AreStates}
+use Rattle.box_tree.specs.Plans.{pieces_at}
+use Rattle.box_tree.specs.Regions.{PlanParts}
+use Rattle.bisect.specs.declared.settler.State.{State}
+use Rattle.bisect.specs.declared.settler.State.TheVariants as state
+use Rattle.bisect.specs.declared.outcome.Leaf.{Leaf}
+use Rattle.bisect.specs.Trees.{Tree, child_count, IsLeaf}
+use Rattle.bisect.specs.Boxes.{AreBoxes, first_open, leaves_of, leaf_at, with_leaf, open_goal}
+use Rattle.bisect.specs.Boxes.{or_later, not_some, later_none}
+use Rattle.bisect.specs.Gathered.{with_known, with_state, line_with, line_of, lines_of}
 use Rattle.case_trees.specs.declared.outcome.OpenLeaf.{OpenLeaf}
 use Rattle.case_trees.specs.Listed.{Listed, AreListed, first_open_from, all_leaves}
 use Rattle.case_trees.specs.Listed.{or_later as or_later_case}
+use Rattle.settler.specs.Standing.{IsBestKnown, AreSettledBy, StandsAs, AreStates}
 use Rattle.settler.specs.Answers.{Options, plan_of, tree_by, IsTreeOf, AreTrees, IsProved}
 use Rattle.settler.specs.Tight.{Gives, GiveEach, hull_over, LeavesOf, LeavesOfEach, GiveInEach}
 use Rattle.settler.specs.Tight.{AreTight}

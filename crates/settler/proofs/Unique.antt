@@ -1,24 +1,24 @@
 -- A script comes to one outcome, and has one answer.
 use Rattle.std.specs.Prelude.{◌≡◌, ℕ, List, [], ◌∷◌, length, refl}
 use Rattle.std.proofs.Common.{sym, ◌∙◌, ap, ap₂, subst}
-use Rattle.case_trees.specs.script_claims.declared.claim.Claim.{Claim}
-use Rattle.script_truths.specs.script_grammar.Spells.{View}
-use Rattle.saturate.specs.derivation.Laws.{BoxesComeToOneState}
-use Rattle.saturate.specs.rule_universe.Worlds.{World}
-use Rattle.script_truths.specs.script_grammar.Cases.{cases_of}
-use Rattle.script_truths.specs.universe.Universes.{UniversesAreOne}
-use Rattle.case_trees.specs.box_tree.Plans.{pieces_at}
-use Rattle.case_trees.specs.box_tree.Regions.{PlanParts}
+use Rattle.script_claims.specs.declared.claim.Claim.{Claim}
+use Rattle.script_grammar.specs.Spells.{View}
+use Rattle.script_grammar.specs.Cases.{cases_of}
+use Rattle.derivation.specs.Laws.{BoxesComeToOneState}
+use Rattle.rule_universe.specs.Worlds.{World}
 use Rattle.saturate.specs.Universes.{setting_of}
-use Rattle.case_trees.specs.bisect.declared.settler.State.{State}
-use Rattle.case_trees.specs.bisect.declared.outcome.Leaf.{Leaf}
-use Rattle.case_trees.specs.bisect.Trees.{Tree}
+use Rattle.universe.specs.Universes.{UniversesAreOne}
+use Rattle.box_tree.specs.Plans.{pieces_at}
+use Rattle.box_tree.specs.Regions.{PlanParts}
+use Rattle.bisect.specs.declared.settler.State.{State}
+use Rattle.bisect.specs.declared.outcome.Leaf.{Leaf}
+use Rattle.bisect.specs.Trees.{Tree}
+use Rattle.bisect.specs.Gathered.{lines_of}
 use Rattle.case_trees.specs.declared.outcome.OpenLeaf.{OpenLeaf}
 use Rattle.case_trees.specs.declared.outcome.CaseOutcome.{CaseOutcome}
 use Rattle.case_trees.specs.declared.outcome.CaseOutcome.TheVariants as outcome
 use Rattle.case_trees.specs.Answers.{IsAnswerOfAll}
 use Rattle.case_trees.specs.Laws.{HaveOneAnswer}
-use Rattle.case_trees.specs.bisect.Gathered.{lines_of}
 use Rattle.settler.specs.Standing.{AreStates}
 use Rattle.settler.specs.Answers.{Options, plan_of, tree_by, IsTreeOf, AreTrees, ComesTo, Answer}
 use Rattle.settler.specs.Answers.{expr_limit, box_limit, unproved, proved, IsScriptAnswer}

@@ -1,19 +1,19 @@
 -- What is answered to a script: by the script and its options alone. No code and no order of work
 -- occurs in it.
 use Rattle.std.specs.Prelude.{◌≡◌, ⊤, ℕ, List, [], ◌∷◌, length}
-use Rattle.case_trees.specs.script_claims.declared.claim.Claim.{Claim}
-use Rattle.script_truths.specs.script_grammar.Spells.{View}
-use Rattle.saturate.specs.rule_universe.Worlds.{World}
-use Rattle.script_truths.specs.script_grammar.Cases.{cases_of}
-use Rattle.script_truths.specs.universe.Universes.{IsUniverse, IsTooLarge}
-use Rattle.case_trees.specs.box_tree.Plans.{cut_at}
-use Rattle.case_trees.specs.box_tree.Regions.{PlanParts}
-use Rattle.case_trees.specs.box_tree.Root.{plan_by}
-use Rattle.saturate.specs.goals.declared.line.Line.{Line}
-use Rattle.case_trees.specs.bisect.declared.settler.State.{State}
-use Rattle.case_trees.specs.bisect.declared.outcome.Leaf.{Leaf}
-use Rattle.case_trees.specs.bisect.Trees.{Tree, tree_of}
-use Rattle.case_trees.specs.bisect.Gathered.{lines_of}
+use Rattle.goals.specs.declared.line.Line.{Line}
+use Rattle.script_claims.specs.declared.claim.Claim.{Claim}
+use Rattle.script_grammar.specs.Spells.{View}
+use Rattle.script_grammar.specs.Cases.{cases_of}
+use Rattle.rule_universe.specs.Worlds.{World}
+use Rattle.universe.specs.Universes.{IsUniverse, IsTooLarge}
+use Rattle.box_tree.specs.Plans.{cut_at}
+use Rattle.box_tree.specs.Regions.{PlanParts}
+use Rattle.box_tree.specs.Root.{plan_by}
+use Rattle.bisect.specs.declared.settler.State.{State}
+use Rattle.bisect.specs.declared.outcome.Leaf.{Leaf}
+use Rattle.bisect.specs.Trees.{Tree, tree_of}
+use Rattle.bisect.specs.Gathered.{lines_of}
 use Rattle.case_trees.specs.declared.outcome.OpenLeaf.{OpenLeaf}
 use Rattle.case_trees.specs.declared.outcome.CaseOutcome.{CaseOutcome}
 use Rattle.case_trees.specs.declared.outcome.CaseOutcome.TheVariants as cases

@@ -1,12 +1,12 @@
 -- Calls that answer the tree of a plan's boxes. Only private functions cite these.
 use Rattle.std.specs.Prelude.{◌≤◌, ℕ, Result, IfOk}
 use Rattle.std.specs.Borrow.{Bor}
-use Rattle.saturate.specs.rule_universe.Worlds.{World}
-use Rattle.case_trees.specs.box_tree.Plans.{cut_at}
-use Rattle.case_trees.specs.box_tree.Regions.{PlanParts}
-use Rattle.case_trees.specs.bisect.declared.outcome.Outcome.{Outcome}
-use Rattle.case_trees.specs.bisect.Trees.{tree_of}
-use Rattle.case_trees.specs.bisect.Answers.{IsAnswer}
+use Rattle.rule_universe.specs.Worlds.{World}
+use Rattle.box_tree.specs.Plans.{cut_at}
+use Rattle.box_tree.specs.Regions.{PlanParts}
+use Rattle.bisect.specs.declared.outcome.Outcome.{Outcome}
+use Rattle.bisect.specs.Trees.{tree_of}
+use Rattle.bisect.specs.Answers.{IsAnswer}
 use Rattle.settler.specs.Decided.{state_at}
 use Rattle.settler.specs.Frames.{Fits}
 

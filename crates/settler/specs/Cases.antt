@@ -4,19 +4,19 @@ use Rattle.std.specs.Prelude.{slice_get, refl}
 use Rattle.std.specs.List.{AllByRecursion}
 use Rattle.std.proofs.Common.{ap, sym, subst, ◌∙◌, get_or}
 use Rattle.std.proofs.lemmas.Option.{slice_get_read}
-use Rattle.case_trees.specs.script_claims.declared.claim.Claim.{Claim}
-use Rattle.case_trees.specs.script_claims.Facts.{HasNormalBounds, facts_of}
-use Rattle.script_truths.specs.script_grammar.Spells.{View}
-use Rattle.script_truths.specs.script_grammar.Cases.{cases_of}
-use Rattle.saturate.specs.rule_universe.Worlds.{World}
-use Rattle.saturate.specs.rule_universe.Assumed.{assuming}
-use Rattle.script_truths.specs.universe.Cases.{AreHypotheses}
-use Rattle.case_trees.specs.box_tree.Pieces.{piece_count}
-use Rattle.case_trees.specs.box_tree.Plans.{cut_at}
-use Rattle.case_trees.specs.box_tree.Regions.{PlanParts}
-use Rattle.case_trees.specs.bisect.Trees.{Tree, tree_of}
-use Rattle.settler.specs.declared.cases.Case.{Case}
+use Rattle.script_claims.specs.declared.claim.Claim.{Claim}
+use Rattle.script_claims.specs.Facts.{HasNormalBounds, facts_of}
+use Rattle.script_grammar.specs.Spells.{View}
+use Rattle.script_grammar.specs.Cases.{cases_of}
+use Rattle.rule_universe.specs.Worlds.{World}
+use Rattle.rule_universe.specs.Assumed.{assuming}
+use Rattle.universe.specs.Cases.{AreHypotheses}
+use Rattle.box_tree.specs.Pieces.{piece_count}
+use Rattle.box_tree.specs.Plans.{cut_at}
+use Rattle.box_tree.specs.Regions.{PlanParts}
+use Rattle.bisect.specs.Trees.{Tree, tree_of}
 use Rattle.script_truths.specs.Truths.{HasUniverse}
+use Rattle.settler.specs.declared.cases.Case.{Case}
 use Rattle.settler.specs.Answers.{Options, plan_of}
 use Rattle.settler.specs.Decided.{state_at}
 use Rattle.settler.specs.Held.{SettledLeavesHold, CaseHolds}

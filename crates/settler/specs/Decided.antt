@@ -1,18 +1,18 @@
 -- How a box stands, as its best table decides.
 use Rattle.std.specs.Prelude.{ℕ, List, [], ◌∷◌, Option, Some, None}
-use Rattle.saturate.specs.facts.declared.fact.Fact.{Fact}
-use Rattle.saturate.specs.goals.declared.goal.Goal.{Goal}
-use Rattle.saturate.specs.derivation.Derivations.{Setting, At}
-use Rattle.saturate.specs.derivation.Known.{Piece}
-use Rattle.saturate.specs.derivation.Settled as box
-use Rattle.saturate.specs.derivation.Decided.{state_in}
-use Rattle.saturate.specs.derivation.Exists.{table_at}
-use Rattle.saturate.specs.rule_universe.Worlds.{World}
+use Rattle.facts.specs.declared.fact.Fact.{Fact}
+use Rattle.goals.specs.declared.goal.Goal.{Goal}
+use Rattle.derivation.specs.Derivations.{Setting, At}
+use Rattle.derivation.specs.Known.{Piece}
+use Rattle.derivation.specs.Settled as box
+use Rattle.derivation.specs.Decided.{state_in}
+use Rattle.derivation.specs.Exists.{table_at}
+use Rattle.rule_universe.specs.Worlds.{World}
 use Rattle.saturate.specs.Universes.{setting_of}
-use Rattle.case_trees.specs.box_tree.Plans.{pieces_at}
-use Rattle.case_trees.specs.box_tree.Regions.{PlanParts}
-use Rattle.case_trees.specs.bisect.declared.settler.State.{State}
-use Rattle.case_trees.specs.bisect.declared.settler.State.TheVariants as state
+use Rattle.box_tree.specs.Plans.{pieces_at}
+use Rattle.box_tree.specs.Regions.{PlanParts}
+use Rattle.bisect.specs.declared.settler.State.{State}
+use Rattle.bisect.specs.declared.settler.State.TheVariants as state
 
 -- The facts with one more in front, where a table has it.
 abbrev pub with_found : Option Fact → List Fact → List Fact

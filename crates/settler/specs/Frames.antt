@@ -1,10 +1,10 @@
 -- What boxes are settled in.
 use Rattle.std.specs.Prelude.{◌<◌, ℕ, List, [], ◌∷◌, ◌++◌, length}
 use Rattle.std.specs.Option.{IsSomeAnd}
-use Rattle.saturate.specs.rule_universe.Worlds.{World}
-use Rattle.case_trees.specs.box_tree.Pieces.{piece_count}
-use Rattle.case_trees.specs.box_tree.Plans.{cut_at, piece_at}
-use Rattle.case_trees.specs.box_tree.Regions.{PlanParts}
+use Rattle.rule_universe.specs.Worlds.{World}
+use Rattle.box_tree.specs.Pieces.{piece_count}
+use Rattle.box_tree.specs.Plans.{cut_at, piece_at}
+use Rattle.box_tree.specs.Regions.{PlanParts}
 
 -- The universe of a frame that was given none: no expressions, goals, hypotheses or instances.
 abbrev pub no_world : World

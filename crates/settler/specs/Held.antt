@@ -1,27 +1,27 @@
 -- What is true of assignments where no leaf is open.
 use Rattle.std.specs.Prelude.{◌≡◌, ℕ, List, [], Some, slice_get, Contains}
 use Rattle.fx_model.specs.Expression.{Assignment, IsOrdered, value}
-use Rattle.saturate.specs.facts.declared.fact.Fact.{Fact}
-use Rattle.saturate.specs.facts.Holds.{Holds}
-use Rattle.saturate.specs.goals.declared.goal.Goal.{Goal}
-use Rattle.saturate.specs.goals.Settles.{Settles}
-use Rattle.saturate.specs.goals.declared.line.Line.{Line}
-use Rattle.case_trees.specs.script_claims.declared.claim.Claim.{Claim}
-use Rattle.script_truths.specs.script_grammar.Spells.{View}
-use Rattle.script_truths.specs.script_meets.Meets.{Meets}
-use Rattle.script_truths.specs.script_meets.Held.{AreHeld}
+use Rattle.facts.specs.declared.fact.Fact.{Fact}
+use Rattle.facts.specs.Holds.{Holds}
+use Rattle.goals.specs.declared.goal.Goal.{Goal}
+use Rattle.goals.specs.Settles.{Settles}
+use Rattle.goals.specs.declared.line.Line.{Line}
+use Rattle.theorem_list.specs.Promises.{RowsAreTrue}
+use Rattle.script_claims.specs.declared.claim.Claim.{Claim}
+use Rattle.script_grammar.specs.Spells.{View}
+use Rattle.script_grammar.specs.Cases.{cases_of}
+use Rattle.script_meets.specs.Meets.{Meets}
+use Rattle.script_meets.specs.Held.{AreHeld}
+use Rattle.rule_universe.specs.Worlds.{World}
+use Rattle.box_tree.specs.Covers.{LieInBox}
+use Rattle.box_tree.specs.Plans.{cut_at}
+use Rattle.box_tree.specs.Regions.{PlanParts}
+use Rattle.bisect.specs.declared.settler.State.{State}
+use Rattle.bisect.specs.declared.settler.State.TheVariants as state
+use Rattle.bisect.specs.Trees.{Tree, tree_of, IsLeaf}
+use Rattle.bisect.specs.Boxes.{HasNoOpenLeaf}
 use Rattle.script_truths.specs.Truths.{AreTrue, HasUniverse}
 use Rattle.settler.specs.Answers.{Options, IsTreeOf, IsProved}
-use Rattle.saturate.specs.theorem_list.Promises.{RowsAreTrue}
-use Rattle.saturate.specs.rule_universe.Worlds.{World}
-use Rattle.script_truths.specs.script_grammar.Cases.{cases_of}
-use Rattle.case_trees.specs.box_tree.Covers.{LieInBox}
-use Rattle.case_trees.specs.box_tree.Plans.{cut_at}
-use Rattle.case_trees.specs.box_tree.Regions.{PlanParts}
-use Rattle.case_trees.specs.bisect.declared.settler.State.{State}
-use Rattle.case_trees.specs.bisect.declared.settler.State.TheVariants as state
-use Rattle.case_trees.specs.bisect.Trees.{Tree, tree_of, IsLeaf}
-use Rattle.case_trees.specs.bisect.Boxes.{HasNoOpenLeaf}
 use Rattle.settler.specs.Standing.{AreStates}
 
 -- Of the assignment all is true that derivations over the universe begin with, and its values lie

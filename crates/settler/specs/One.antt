@@ -1,17 +1,17 @@
 -- A script of one case.
 use Rattle.std.specs.Prelude.{◌≡◌, ℕ, List, [], ◌∷◌, length}
-use Rattle.case_trees.specs.script_claims.declared.claim.Claim.{Claim}
-use Rattle.script_truths.specs.script_grammar.Spells.{View}
-use Rattle.saturate.specs.rule_universe.Worlds.{World}
-use Rattle.script_truths.specs.script_grammar.Cases.{cases_of}
-use Rattle.script_truths.specs.universe.Universes.{IsUniverse}
-use Rattle.case_trees.specs.bisect.declared.settler.State.{State}
-use Rattle.case_trees.specs.bisect.declared.outcome.Outcome.{Outcome}
-use Rattle.case_trees.specs.bisect.declared.outcome.Leaf.{Leaf}
-use Rattle.case_trees.specs.bisect.declared.outcome.Outcome.TheVariants as outcome
-use Rattle.case_trees.specs.bisect.Answers.{IsAnswer}
-use Rattle.case_trees.specs.bisect.Gathered.{lines_of}
-use Rattle.saturate.specs.goals.declared.line.Line.{Line}
+use Rattle.goals.specs.declared.line.Line.{Line}
+use Rattle.script_claims.specs.declared.claim.Claim.{Claim}
+use Rattle.script_grammar.specs.Spells.{View}
+use Rattle.script_grammar.specs.Cases.{cases_of}
+use Rattle.rule_universe.specs.Worlds.{World}
+use Rattle.universe.specs.Universes.{IsUniverse}
+use Rattle.bisect.specs.declared.settler.State.{State}
+use Rattle.bisect.specs.declared.outcome.Outcome.{Outcome}
+use Rattle.bisect.specs.declared.outcome.Leaf.{Leaf}
+use Rattle.bisect.specs.declared.outcome.Outcome.TheVariants as outcome
+use Rattle.bisect.specs.Answers.{IsAnswer}
+use Rattle.bisect.specs.Gathered.{lines_of}
 use Rattle.case_trees.specs.Answers.{of_one}
 use Rattle.settler.specs.Standing.{AreStates}
 use Rattle.settler.specs.Answers.{Options, plan_of, tree_by, ComesTo, IsProved}

@@ -1,10 +1,10 @@
 -- Which leaf of an unproved script is named.
 use Rattle.std.specs.Prelude.{◌≡◌, ◌<◌, ◌⊎◌, ℕ, List, Some, slice_get}
-use Rattle.case_trees.specs.script_claims.declared.claim.Claim.{Claim}
-use Rattle.script_truths.specs.script_grammar.Spells.{View}
-use Rattle.script_truths.specs.script_grammar.Cases.{cases_of}
-use Rattle.case_trees.specs.bisect.Trees.{Tree}
-use Rattle.case_trees.specs.bisect.Boxes.{IsBefore, IsOpenLeaf, HasNoOpenLeaf}
+use Rattle.script_claims.specs.declared.claim.Claim.{Claim}
+use Rattle.script_grammar.specs.Spells.{View}
+use Rattle.script_grammar.specs.Cases.{cases_of}
+use Rattle.bisect.specs.Trees.{Tree}
+use Rattle.bisect.specs.Boxes.{IsBefore, IsOpenLeaf, HasNoOpenLeaf}
 use Rattle.case_trees.specs.declared.outcome.OpenLeaf.{OpenLeaf}
 use Rattle.settler.specs.Answers.{Options, IsTreeOf, IsUnproved}
 

@@ -1,20 +1,20 @@
 -- How a box stands, by what is known there.
 use Rattle.std.specs.Prelude.{◌≡◌, ℕ, List, [], ◌∷◌}
-use Rattle.saturate.specs.facts.declared.fact.Fact.{Fact}
-use Rattle.saturate.specs.facts.declared.fact.Slot.{Slot}
-use Rattle.saturate.specs.facts.declared.fact.Fact.TheVariants as fact
-use Rattle.saturate.specs.facts.Order.{slot_of, IsStronger}
-use Rattle.saturate.specs.goals.Settles.{Settles}
-use Rattle.saturate.specs.goals.declared.goal.Goal.{Goal}
-use Rattle.saturate.specs.derivation.Derivations.{Setting}
-use Rattle.saturate.specs.derivation.Known.{Piece, Known}
-use Rattle.saturate.specs.derivation.Settled.{IsFirstOpen}
-use Rattle.saturate.specs.rule_universe.Worlds.{World}
+use Rattle.facts.specs.declared.fact.Fact.{Fact}
+use Rattle.facts.specs.declared.fact.Slot.{Slot}
+use Rattle.facts.specs.declared.fact.Fact.TheVariants as fact
+use Rattle.facts.specs.Order.{slot_of, IsStronger}
+use Rattle.goals.specs.Settles.{Settles}
+use Rattle.goals.specs.declared.goal.Goal.{Goal}
+use Rattle.derivation.specs.Derivations.{Setting}
+use Rattle.derivation.specs.Known.{Piece, Known}
+use Rattle.derivation.specs.Settled.{IsFirstOpen}
+use Rattle.rule_universe.specs.Worlds.{World}
 use Rattle.saturate.specs.Universes.{setting_of}
-use Rattle.case_trees.specs.box_tree.Plans.{pieces_at}
-use Rattle.case_trees.specs.box_tree.Regions.{PlanParts}
-use Rattle.case_trees.specs.bisect.declared.settler.State.{State}
-use Rattle.case_trees.specs.bisect.declared.settler.State.TheVariants as state
+use Rattle.box_tree.specs.Plans.{pieces_at}
+use Rattle.box_tree.specs.Regions.{PlanParts}
+use Rattle.bisect.specs.declared.settler.State.{State}
+use Rattle.bisect.specs.declared.settler.State.TheVariants as state
 
 -- The fact is known at the box, and is as strong as each that is known there on its slot, or
 -- stronger.

@@ -1,27 +1,27 @@
 -- What the lines of a proved script are gathered from.
 use Rattle.std.specs.Prelude.{◌≡◌, ◌↔◌, ◌++◌, ⊤, ℕ, List, [], ◌∷◌, length, Option, Some, None}
 use Rattle.std.specs.Prelude.{slice_get}
-use Rattle.saturate.specs.facts.declared.fact.Fact.{Fact}
-use Rattle.saturate.specs.facts.declared.fact.Fact.TheVariants as fact
-use Rattle.saturate.specs.goals.declared.goal.Goal.{Goal}
-use Rattle.saturate.specs.goals.declared.line.Line.{Line}
-use Rattle.saturate.specs.goals.declared.line.Line.TheVariants as line
-use Rattle.saturate.specs.goals.Settles.{Settles}
-use Rattle.case_trees.specs.script_claims.declared.claim.Claim.{Claim}
-use Rattle.case_trees.specs.script_claims.Facts.{goal_of}
-use Rattle.script_truths.specs.script_grammar.Spells.{View}
-use Rattle.saturate.specs.pair_closure.Reached.{Has}
-use Rattle.saturate.specs.derivation.Derivations.{Setting}
-use Rattle.saturate.specs.derivation.Known.{Piece, Known}
-use Rattle.saturate.specs.rule_universe.Worlds.{World}
-use Rattle.script_truths.specs.script_grammar.Cases.{cases_of}
-use Rattle.script_truths.specs.universe.Universes.{IsUniverse}
+use Rattle.pair_closure.specs.Reached.{Has}
+use Rattle.facts.specs.declared.fact.Fact.{Fact}
+use Rattle.facts.specs.declared.fact.Fact.TheVariants as fact
+use Rattle.goals.specs.declared.goal.Goal.{Goal}
+use Rattle.goals.specs.declared.line.Line.{Line}
+use Rattle.goals.specs.declared.line.Line.TheVariants as line
+use Rattle.goals.specs.Settles.{Settles}
+use Rattle.script_claims.specs.declared.claim.Claim.{Claim}
+use Rattle.script_claims.specs.Facts.{goal_of}
+use Rattle.script_grammar.specs.Spells.{View}
+use Rattle.script_grammar.specs.Cases.{cases_of}
+use Rattle.derivation.specs.Derivations.{Setting}
+use Rattle.derivation.specs.Known.{Piece, Known}
+use Rattle.rule_universe.specs.Worlds.{World}
 use Rattle.saturate.specs.Universes.{setting_of}
-use Rattle.case_trees.specs.box_tree.Plans.{pieces_at}
-use Rattle.case_trees.specs.box_tree.Regions.{PlanParts}
-use Rattle.case_trees.specs.bisect.declared.settler.State.{State}
-use Rattle.case_trees.specs.bisect.Trees.{IsLeaf}
-use Rattle.case_trees.specs.bisect.Gathered.{with_known}
+use Rattle.universe.specs.Universes.{IsUniverse}
+use Rattle.box_tree.specs.Plans.{pieces_at}
+use Rattle.box_tree.specs.Regions.{PlanParts}
+use Rattle.bisect.specs.declared.settler.State.{State}
+use Rattle.bisect.specs.Trees.{IsLeaf}
+use Rattle.bisect.specs.Gathered.{with_known}
 use Rattle.settler.specs.Standing.{IsBestKnown, AreStates}
 use Rattle.settler.specs.Answers.{Options, plan_of, tree_by, IsProved}
 

@@ -1,27 +1,30 @@
 //! The settler of boxes.
 ghost use Rattle.std.specs.Prelude.{◌≡◌, ◌<◌, ◌++◌, ℕ, List, [], length, IfOk, OnOk, Some};
 ghost use Rattle.std.specs.Prelude.{MatchOption};
-ghost use Rattle.case_trees.specs.box_tree.Paths.{IsChild, IsPathOf};
-ghost use Rattle.case_trees.specs.box_tree.Pieces.{piece_count};
-ghost use Rattle.case_trees.specs.box_tree.Plans.{cut_at, piece_at, pieces_at};
-ghost use Rattle.saturate.specs.derivation.Known.{IsTableAt};
-ghost use Rattle.saturate.specs.derivation.Settled.{IsState};
+ghost use Rattle.derivation.specs.Known.{IsTableAt};
+ghost use Rattle.derivation.specs.Settled.{IsState};
 ghost use Rattle.saturate.specs.Tables.{fact_at};
 ghost use Rattle.saturate.specs.Universes.{setting_of, HasAllPlaces};
 ghost use Rattle.saturate.specs.Closed.{IsMarked, IsMarkedParent};
 ghost use Rattle.saturate.specs.Boxes.{IsBox, IsOfUniverse, table_of, state_of};
+ghost use Rattle.box_tree.specs.Paths.{IsChild, IsPathOf};
+ghost use Rattle.box_tree.specs.Pieces.{piece_count};
+ghost use Rattle.box_tree.specs.Plans.{cut_at, piece_at, pieces_at};
 ghost use Rattle.settler.specs.Decided.{goal_facts, state_with, state_at};
 ghost use Rattle.settler.specs.Frames.{Fits};
 
 use crate::entry::Entry;
 use crate::frame::Frame;
-use case_trees::{Cut, Plan, Settler, State, Verdict};
+use box_tree::{Cut, Plan};
+use bisect::{Settler, State, Verdict};
 use fx_edge::{Items, Path};
 use fx_model::ExprId;
-use saturate::{
-    Area, Fact, Goal, Interval, Settled, Table, Universe, best_tables_exist,
-    boxes_come_to_one_state, rules_are_lawful, settle, settling_facts,
-};
+use saturate::{Area, Settled, Table, rules_are_lawful, settle};
+use facts::Fact;
+use goals::{Goal, settling_facts};
+use interval::Interval;
+use rule_universe::Universe;
+use derivation::{best_tables_exist, boxes_come_to_one_state};
 use std::alloc::{AllocError, Global};
 use std::marker::{Model, PhantomData};
 

@@ -1,12 +1,15 @@
 //! The cases of a script, each with its plan.
 ghost use Rattle.std.specs.Prelude.{◌≤◌, IfOk};
-ghost use Rattle.script_truths.specs.script_grammar.Cases.{cases_of};
+ghost use Rattle.script_grammar.specs.Cases.{cases_of};
 ghost use Rattle.settler.specs.Cases.{AreCases, IsLawful};
 
-use case_trees::{Claim, Plan, leaves_cover};
+use script_claims::Claim;
+use box_tree::Plan;
+use bisect::leaves_cover;
 use fx_edge::Items;
-use saturate::{known_facts_hold, rules_are_sound_for};
-use script_truths::Script;
+use derivation::known_facts_hold;
+use saturate::rules_are_sound_for;
+use script_grammar::Script;
 use std::alloc::{AllocError, Global};
 
 /// A case of a script with its plan.

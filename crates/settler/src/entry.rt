@@ -1,13 +1,13 @@
-ghost use Rattle.saturate.specs.derivation.Known.{IsTableAt};
+ghost use Rattle.std.specs.Prelude.{◌≡◌};
+ghost use Rattle.derivation.specs.Known.{IsTableAt};
 ghost use Rattle.saturate.specs.Tables.{fact_at};
 ghost use Rattle.saturate.specs.Universes.{setting_of, HasAllPlaces};
 ghost use Rattle.saturate.specs.Closed.{IsMarked};
-ghost use Rattle.case_trees.specs.box_tree.Plans.{cut_at, pieces_at};
+ghost use Rattle.box_tree.specs.Plans.{cut_at, pieces_at};
 ghost use Rattle.settler.specs.Decided.{state_at};
-ghost use Rattle.std.specs.Prelude.{◌≡◌};
 
 use crate::frame::Frame;
-use case_trees::Posted;
+use bisect::Posted;
 use fx_edge::Path;
 use saturate::Table;
 use std::marker::{Model, PhantomData};
@@ -22,11 +22,11 @@ pub struct Entry<F: Frame> {
 
 impl<F: Frame> Model for Entry<F> {
     ghost use Rattle.std.specs.Prelude.{List, ℕ};
-    ghost use Rattle.saturate.specs.derivation.Known.{IsTableAt};
+    ghost use Rattle.derivation.specs.Known.{IsTableAt};
     ghost use Rattle.saturate.specs.Tables.{fact_at};
     ghost use Rattle.saturate.specs.Universes.{setting_of, HasAllPlaces};
     ghost use Rattle.saturate.specs.Closed.{IsMarked};
-    ghost use Rattle.case_trees.specs.box_tree.Plans.{pieces_at};
+    ghost use Rattle.box_tree.specs.Plans.{pieces_at};
 
     ghost Value = { List ℕ };
 

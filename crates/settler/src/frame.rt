@@ -1,6 +1,6 @@
 ghost use Rattle.std.specs.Prelude.{ℕ};
-ghost use Rattle.saturate.specs.rule_universe.Worlds.{World};
-ghost use Rattle.case_trees.specs.box_tree.Regions.{PlanParts};
+ghost use Rattle.rule_universe.specs.Worlds.{World};
+ghost use Rattle.box_tree.specs.Regions.{PlanParts};
 ghost use Rattle.settler.specs.Frames.{no_world, no_plan};
 
 use std::marker::Brand;

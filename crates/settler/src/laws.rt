@@ -1,8 +1,8 @@
 // What holds of the answers of scripts, for callers to cite. Nothing here is done at run time.
 ghost use Rattle.std.specs.Prelude.{ℕ, List};
-ghost use Rattle.case_trees.specs.script_claims.declared.claim.Claim.{Claim};
-ghost use Rattle.script_truths.specs.script_grammar.Spells.{View};
-ghost use Rattle.script_truths.specs.universe.Universes.{IsUniverse};
+ghost use Rattle.script_claims.specs.declared.claim.Claim.{Claim};
+ghost use Rattle.script_grammar.specs.Spells.{View};
+ghost use Rattle.universe.specs.Universes.{IsUniverse};
 ghost use Rattle.settler.specs.Frames.{Fits};
 ghost use Rattle.settler.specs.Answers.{Options, plan_of, OutcomesAreOne, AnswersAreOne};
 ghost use Rattle.settler.specs.Tight.{ProvedLinesAreTight};
@@ -11,9 +11,13 @@ ghost use Rattle.settler.specs.One.{OneCaseIsAll, ProvedInOneCase};
 ghost use Rattle.settler.specs.Cases.{LawfulCasesHold};
 ghost use Rattle.settler.specs.Held.{CasesHold, ProvedHolds};
 
-use case_trees::{cases_answer_once, cases_are_told, lines_cover_cases, pieces_are_of_hypotheses};
-use saturate::{Universe, boxes_come_to_one_state, settling_facts};
-use script_truths::{goals_are_true, some_case_is_met, universes_are_one, what_is_given_is_true};
+use case_trees::{cases_answer_once, cases_are_told, lines_cover_cases};
+use box_tree::pieces_are_of_hypotheses;
+use rule_universe::Universe;
+use derivation::boxes_come_to_one_state;
+use goals::settling_facts;
+use script_truths::{goals_are_true, some_case_is_met, what_is_given_is_true};
+use universe::universes_are_one;
 
 /// Nothing is done. The clause tells a caller that the plan of a case cuts along expressions of the
 /// script's universe in which its claims are assumed.

@@ -1,11 +1,11 @@
 //! The answer of a script: a tree of boxes for each of its cases.
 ghost use Rattle.std.specs.Prelude.{◌≡◌, ◌≤◌, ◌+◌, ℕ, List, IfOk, length};
-ghost use Rattle.case_trees.specs.box_tree.Plans.{cut_at};
-ghost use Rattle.case_trees.specs.script_claims.declared.claim.Claim.{Claim};
-ghost use Rattle.script_truths.specs.script_grammar.Cases.{cases_of};
-ghost use Rattle.script_truths.specs.universe.Universes.{IsTooLarge, IsUniverse};
-ghost use Rattle.case_trees.specs.bisect.Trees.{tree_of};
-ghost use Rattle.case_trees.specs.bisect.Answers.{IsAnswer};
+ghost use Rattle.script_claims.specs.declared.claim.Claim.{Claim};
+ghost use Rattle.script_grammar.specs.Cases.{cases_of};
+ghost use Rattle.universe.specs.Universes.{IsTooLarge, IsUniverse};
+ghost use Rattle.box_tree.specs.Plans.{cut_at};
+ghost use Rattle.bisect.specs.Trees.{tree_of};
+ghost use Rattle.bisect.specs.Answers.{IsAnswer};
 ghost use Rattle.case_trees.specs.Answers.{IsAnswerOfAll};
 ghost use Rattle.settler.specs.Answers.{ComesTo, options};
 ghost use Rattle.settler.specs.Calls.{IsAnswerer};
@@ -19,12 +19,16 @@ use crate::cases::Case;
 use crate::frame::Frame;
 use crate::laws::{cases_hold, plans_fit, proved_answers_hold};
 use box_workers::run;
-use case_trees::{CaseOutcome, Gathered, Outcome, Plan, run_alone, trees_are_gathered};
+use case_trees::{CaseOutcome, Gathered, trees_are_gathered};
+use bisect::{Outcome, run_alone};
+use box_tree::Plan;
 use fx_edge::Gate;
-use saturate::{
-    Universe, best_tables_exist, boxes_come_to_one_state, rules_are_lawful, settling_facts,
-};
-use script_truths::{Script, assume};
+use rule_universe::Universe;
+use derivation::{best_tables_exist, boxes_come_to_one_state};
+use saturate::rules_are_lawful;
+use goals::settling_facts;
+use script_grammar::Script;
+use universe::assume;
 use std::alloc::{AllocError, Global};
 use std::marker::Brand;
 use std::sync::Wait;

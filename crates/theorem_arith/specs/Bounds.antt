@@ -1,14 +1,14 @@
 -- Rules on bounds, numbers 1 to 10 of the list: each row as a function from premises and a target
 -- to its conclusion. What fits no row gives nothing.
 use Rattle.std.specs.Prelude.{List, [], ◌∷◌, Option, Some, None, slice_get}
-use Rattle.expr_dag.specs.fx_model.declared.ExprId.{ExprId}
-use Rattle.expr_dag.specs.fx_model.declared.Node.{Node}
-use Rattle.expr_dag.specs.fx_model.declared.Node.TheVariants as node
-use Rattle.expr_dag.specs.fx_model.Fraction.{zero_ℚ, one_ℚ}
-use Rattle.expr_dag.specs.fx_model.Expression.{literal_value}
-use Rattle.facts.specs.interval.declared.interval.Interval.{Interval}
-use Rattle.facts.specs.interval.Results.{negation_of, sum_of, difference_of, product_of}
-use Rattle.facts.specs.interval.Results.{quotient_of, point_of, whole_interval}
+use Rattle.fx_model.specs.declared.ExprId.{ExprId}
+use Rattle.fx_model.specs.declared.Node.{Node}
+use Rattle.fx_model.specs.declared.Node.TheVariants as node
+use Rattle.fx_model.specs.Fraction.{zero_ℚ, one_ℚ}
+use Rattle.fx_model.specs.Expression.{literal_value}
+use Rattle.interval.specs.declared.interval.Interval.{Interval}
+use Rattle.interval.specs.Results.{negation_of, sum_of, difference_of, product_of, quotient_of}
+use Rattle.interval.specs.Results.{point_of, whole_interval}
 use Rattle.expr_dag.specs.Shapes.{is_at}
 use Rattle.facts.specs.declared.fact.Fact.{Fact}
 use Rattle.facts.specs.declared.fact.Slot.{Slot}

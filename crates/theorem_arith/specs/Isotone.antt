@@ -1,14 +1,13 @@
 -- The rules on bounds: from stronger premises they give a fact as strong, or stronger.
 use Rattle.std.specs.Prelude.{[], ◌∷◌, refl}
 use Rattle.std.proofs.Common.{sym, subst}
-use Rattle.expr_dag.specs.fx_model.declared.ExprId.{ExprId}
-use Rattle.expr_dag.specs.fx_model.declared.Node.{Node}
-use Rattle.expr_dag.specs.fx_model.declared.Node.TheVariants as node
-use Rattle.facts.specs.interval.declared.interval.Interval.{Interval}
-use Rattle.facts.specs.interval.Results.{negation_of, sum_of, difference_of, product_of}
-use Rattle.facts.specs.interval.Results.{quotient_of}
-use Rattle.facts.specs.interval.Monotone.{negation_of-within, sum_of-within, difference_of-within}
-use Rattle.facts.specs.interval.Monotone.{product_of-within, quotient_of-within}
+use Rattle.fx_model.specs.declared.ExprId.{ExprId}
+use Rattle.fx_model.specs.declared.Node.{Node}
+use Rattle.fx_model.specs.declared.Node.TheVariants as node
+use Rattle.interval.specs.declared.interval.Interval.{Interval}
+use Rattle.interval.specs.Results.{negation_of, sum_of, difference_of, product_of, quotient_of}
+use Rattle.interval.specs.Monotone.{negation_of-within, sum_of-within, difference_of-within}
+use Rattle.interval.specs.Monotone.{product_of-within, quotient_of-within}
 use Rattle.expr_dag.specs.Shapes.{is_at}
 use Rattle.facts.specs.declared.fact.Fact.TheVariants as fact
 use Rattle.facts.specs.declared.fact.Slot.TheVariants as slot

@@ -2,27 +2,24 @@
 -- stronger.
 use Rattle.std.specs.Prelude.{◌≡◌, ◌≢◌, ◌||◌, [], ◌∷◌, Option, Some, None, refl}
 use Rattle.std.proofs.Common.{sym, ap, subst, ◌∙◌}
-use Rattle.expr_dag.specs.fx_model.Fraction.{Fraction, ◌+ℚ◌, ◌-ℚ◌, ◌*ℚ◌, ◌/ℚ◌, ◌≤ℚ◌, zero_ℚ, neg_ℚ}
-use Rattle.expr_dag.specs.fx_model.Fraction.{abs_ℚ, abs-from, le_refl, le_trans, add-le-add}
-use Rattle.expr_dag.specs.fx_model.Fraction.{zero-add, add_comm}
-use Rattle.expr_dag.specs.fx_model.Enclosure.{Lies, IsFrom, IsUpTo, BoundLe, Sums, Differences}
-use Rattle.expr_dag.specs.fx_model.Enclosure.{in_enclosure, product_holds, ordered_by, higher_from}
-use Rattle.expr_dag.specs.fx_model.declared.Node.TheVariants as node
-use Rattle.facts.specs.grid_words.Signs.{neg_down}
-use Rattle.facts.specs.grid_words.AbsoluteValues.{abs-not_negative, abs-div, product_up}
-use Rattle.facts.specs.grid_words.Products.{quotient_holds}
-use Rattle.facts.specs.dyadic.Ends.{bound_of}
-use Rattle.facts.specs.dyadic.Extremes.{BoundLe-refl, greater_end}
-use Rattle.facts.specs.interval.declared.interval.Interval.{Interval}
-use Rattle.facts.specs.interval.Ends.{AreEnds}
-use Rattle.facts.specs.interval.Intervals.{range_of}
-use Rattle.facts.specs.interval.Meets.{interval_from, interval_from_out, from_greater}
-use Rattle.facts.specs.interval.Results.{sum_of, sum_of-is, difference_of, difference_of-is}
-use Rattle.facts.specs.interval.Results.{product_of, product_of-is, quotient_of, quotient_of-is}
-use Rattle.facts.specs.interval.Results.{half_line}
-use Rattle.facts.specs.interval.Monotone.{greater_end-rises, interval_from-within, sum_of-within}
-use Rattle.facts.specs.interval.Monotone.{difference_of-within, product_of-within}
-use Rattle.facts.specs.interval.Monotone.{quotient_of-within}
+use Rattle.fx_model.specs.Fraction.{Fraction, ◌+ℚ◌, ◌-ℚ◌, ◌*ℚ◌, ◌/ℚ◌, ◌≤ℚ◌, zero_ℚ, neg_ℚ, abs_ℚ}
+use Rattle.fx_model.specs.Fraction.{abs-from, le_refl, le_trans, add-le-add, zero-add, add_comm}
+use Rattle.fx_model.specs.Fraction.{neg_down}
+use Rattle.fx_model.specs.Enclosure.{Lies, IsFrom, IsUpTo, BoundLe, Sums, Differences, in_enclosure}
+use Rattle.fx_model.specs.Enclosure.{product_holds, ordered_by, higher_from}
+use Rattle.fx_model.specs.declared.Node.TheVariants as node
+use Rattle.grid_words.specs.AbsoluteValues.{abs-not_negative, abs-div, product_up}
+use Rattle.grid_words.specs.Products.{quotient_holds}
+use Rattle.dyadic.specs.Ends.{bound_of}
+use Rattle.dyadic.specs.Extremes.{BoundLe-refl, greater_end}
+use Rattle.interval.specs.declared.interval.Interval.{Interval}
+use Rattle.interval.specs.Ends.{AreEnds}
+use Rattle.interval.specs.Intervals.{range_of}
+use Rattle.interval.specs.Meets.{interval_from, interval_from_out, from_greater}
+use Rattle.interval.specs.Results.{sum_of, sum_of-is, difference_of, difference_of-is, product_of}
+use Rattle.interval.specs.Results.{product_of-is, quotient_of, quotient_of-is, half_line}
+use Rattle.interval.specs.Monotone.{greater_end-rises, interval_from-within, sum_of-within}
+use Rattle.interval.specs.Monotone.{difference_of-within, product_of-within, quotient_of-within}
 use Rattle.expr_dag.specs.Shapes.{is_at}
 use Rattle.facts.specs.declared.size.Size.{Size}
 use Rattle.facts.specs.declared.fact.Fact.TheVariants as fact
@@ -33,10 +30,10 @@ use Rattle.facts.specs.SizesWithin.{size_member, size_within-smaller}
 use Rattle.facts.specs.Promises.{IsIsotone}
 use Rattle.facts.specs.Premises.{Gives, one_abs, two_abs}
 use Rattle.facts.specs.Conclusions.{abs_of, improves_abs, improves_given, improves_only}
+use Rattle.facts.specs.Within.{on_half_line}
 use Rattle.theorem_arith.specs.Sizes.{size_of_negation_rule, size_of_product_rule, size_within_part}
 use Rattle.theorem_arith.specs.Sizes.{size_of_quotient_rule, least_size, size_of_sum}
 use Rattle.theorem_arith.specs.Sizes.{size_of_sum_rule}
-use Rattle.facts.specs.Within.{on_half_line}
 
 pub size_of_negation_rule-isotone : IsIsotone size_of_negation_rule
 size_of_negation_rule-isotone nodes (fact.Abs x i ∷ []) (slot.Abs e) ps c s q =

@@ -3,24 +3,22 @@ use Rattle.std.specs.Prelude.{◌≡◌, Bool, true, false, ◌&&◌, [], ◌∷
 use Rattle.std.specs.Prelude.{if◌then◌else◌, refl}
 use Rattle.std.proofs.Common.{sym, ap, subst}
 use Rattle.std.proofs.lemmas.Bool.{and_parts, and_from}
-use Rattle.expr_dag.specs.fx_model.Fraction.{zero_ℚ, neg_ℚ, abs_ℚ, le_trans}
-use Rattle.expr_dag.specs.fx_model.Grid.{Bound, neg_bound}
-use Rattle.expr_dag.specs.fx_model.Enclosure.{BoundLe, Negations, Sizes, in_enclosure}
-use Rattle.expr_dag.specs.fx_model.Enclosure.{member_of, ordered_by, higher_from}
-use Rattle.expr_dag.specs.fx_model.declared.ExprId.{ExprId}
-use Rattle.expr_dag.specs.fx_model.declared.Node.TheVariants as node
-use Rattle.facts.specs.grid_words.Signs.{neg_down}
-use Rattle.facts.specs.grid_words.AbsoluteValues.{abs-not_negative}
-use Rattle.facts.specs.dyadic.Order.{le_bound}
-use Rattle.facts.specs.dyadic.Compared.{BoundLe_in, BoundLe_out}
-use Rattle.facts.specs.dyadic.Ends.{bound_of}
-use Rattle.facts.specs.dyadic.Extremes.{BoundLe-trans}
-use Rattle.facts.specs.interval.declared.interval.Interval.{Interval}
-use Rattle.facts.specs.interval.Ends.{AreEnds}
-use Rattle.facts.specs.interval.Intervals.{range_of}
-use Rattle.facts.specs.interval.Results.{negation_of, negation_of-is, size_of, size_of-is}
-use Rattle.facts.specs.interval.Monotone.{neg_bound-falls, interval_from-within, negation_of-within}
-use Rattle.facts.specs.interval.Monotone.{size_of-within}
+use Rattle.fx_model.specs.Fraction.{zero_ℚ, neg_ℚ, abs_ℚ, le_trans, neg_down}
+use Rattle.fx_model.specs.Grid.{Bound, neg_bound, le_bound}
+use Rattle.fx_model.specs.Enclosure.{BoundLe, Negations, Sizes, in_enclosure, member_of, ordered_by}
+use Rattle.fx_model.specs.Enclosure.{higher_from}
+use Rattle.fx_model.specs.declared.ExprId.{ExprId}
+use Rattle.fx_model.specs.declared.Node.TheVariants as node
+use Rattle.grid_words.specs.AbsoluteValues.{abs-not_negative}
+use Rattle.dyadic.specs.Compared.{BoundLe_in, BoundLe_out}
+use Rattle.dyadic.specs.Ends.{bound_of}
+use Rattle.dyadic.specs.Extremes.{BoundLe-trans}
+use Rattle.interval.specs.declared.interval.Interval.{Interval}
+use Rattle.interval.specs.Ends.{AreEnds}
+use Rattle.interval.specs.Intervals.{range_of}
+use Rattle.interval.specs.Results.{negation_of, negation_of-is, size_of, size_of-is}
+use Rattle.interval.specs.Monotone.{neg_bound-falls, interval_from-within, negation_of-within}
+use Rattle.interval.specs.Monotone.{size_of-within}
 use Rattle.expr_dag.specs.Shapes.{is_at}
 use Rattle.facts.specs.declared.size.Size.{Size}
 use Rattle.facts.specs.declared.fact.Fact.TheVariants as fact

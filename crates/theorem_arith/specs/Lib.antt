@@ -1,6 +1,3 @@
--- What callers name of the crates below.
-pub use Rattle.expr_dag.specs as expr_dag
-pub use Rattle.facts.specs as facts
 pub mod Shapes
 pub mod Bounds
 pub mod Sizes

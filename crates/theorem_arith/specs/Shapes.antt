@@ -1,11 +1,11 @@
 -- Conclusions of rules.
 use Rattle.std.specs.Prelude.{◌≡◌, ◌&&◌, Bool, true, List}
 use Rattle.std.proofs.lemmas.Bool.{and_parts}
-use Rattle.expr_dag.specs.fx_model.declared.Node.{Node}
+use Rattle.fx_model.specs.declared.Node.{Node}
+use Rattle.fx_model.specs.declared.ExprId.{ExprId}
 use Rattle.expr_dag.specs.Shapes.{is_known}
 use Rattle.facts.specs.Order.{is_same}
 use Rattle.facts.specs.CommonParts.{expr_same}
-use Rattle.expr_dag.specs.fx_model.declared.ExprId.{ExprId}
 
 -- both are one expression of the list
 abbrev pub is_one : List Node → ExprId → ExprId → Bool

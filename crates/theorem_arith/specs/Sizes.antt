@@ -3,18 +3,17 @@
 -- with [0, +inf].
 use Rattle.std.specs.Prelude.{Bool, true, false, ◌&&◌, ◌||◌, List, [], ◌∷◌, Option, Some, None}
 use Rattle.std.specs.Prelude.{slice_get, if◌then◌else◌}
-use Rattle.expr_dag.specs.fx_model.declared.ExprId.{ExprId}
-use Rattle.expr_dag.specs.fx_model.declared.Node.{Node}
-use Rattle.expr_dag.specs.fx_model.declared.Node.TheVariants as node
-use Rattle.facts.specs.dyadic.Order.{le_bound}
-use Rattle.facts.specs.dyadic.Ends.{bound_of}
-use Rattle.expr_dag.specs.fx_model.Grid.{Bound, neg_bound}
-use Rattle.facts.specs.interval.declared.interval.Interval.{Interval}
-use Rattle.facts.specs.dyadic.declared.number.End.{End}
-use Rattle.facts.specs.dyadic.Extremes.{greater_end}
-use Rattle.facts.specs.interval.Meets.{interval_from}
-use Rattle.facts.specs.interval.Results.{negation_of, sum_of, difference_of, product_of}
-use Rattle.facts.specs.interval.Results.{quotient_of, size_of, half_line}
+use Rattle.fx_model.specs.declared.ExprId.{ExprId}
+use Rattle.fx_model.specs.declared.Node.{Node}
+use Rattle.fx_model.specs.declared.Node.TheVariants as node
+use Rattle.fx_model.specs.Grid.{le_bound, Bound, neg_bound}
+use Rattle.dyadic.specs.Ends.{bound_of}
+use Rattle.dyadic.specs.declared.number.End.{End}
+use Rattle.dyadic.specs.Extremes.{greater_end}
+use Rattle.interval.specs.declared.interval.Interval.{Interval}
+use Rattle.interval.specs.Meets.{interval_from}
+use Rattle.interval.specs.Results.{negation_of, sum_of, difference_of, product_of, quotient_of}
+use Rattle.interval.specs.Results.{size_of, half_line}
 use Rattle.expr_dag.specs.Shapes.{is_at}
 use Rattle.facts.specs.declared.size.Size.{Size}
 use Rattle.facts.specs.declared.fact.Fact.{Fact}

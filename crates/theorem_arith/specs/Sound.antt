@@ -2,23 +2,24 @@
 use Rattle.std.specs.Prelude.{◌≡◌, ◌≢◌, List, [], ◌∷◌, Option, Some, None, slice_get, refl}
 use Rattle.std.specs.Option.{IsSomeAnd}
 use Rattle.std.proofs.Common.{sym, subst}
-use Rattle.expr_dag.specs.fx_model.Fraction.{Fraction, ◌+ℚ◌, ◌-ℚ◌, ◌*ℚ◌, ◌/ℚ◌, neg_ℚ, zero_ℚ, one_ℚ}
-use Rattle.expr_dag.specs.fx_model.Fraction.{add-neg, mul-inverse}
-use Rattle.expr_dag.specs.fx_model.Enclosure.{Lies, Sums, Differences, Negations, in_enclosure}
-use Rattle.expr_dag.specs.fx_model.Enclosure.{product_holds}
-use Rattle.expr_dag.specs.fx_model.Expression.{Assignment, IsOrdered, value, node_value, lift₂}
-use Rattle.expr_dag.specs.fx_model.Expression.{quotient, literal_value}
-use Rattle.expr_dag.specs.fx_model.declared.ExprId.{ExprId}
-use Rattle.expr_dag.specs.fx_model.declared.Node.{Node}
-use Rattle.expr_dag.specs.fx_model.declared.Node.TheVariants as node
-use Rattle.facts.specs.grid_words.Products.{quotient_holds}
-use Rattle.facts.specs.interval.declared.interval.Interval.{Interval}
-use Rattle.facts.specs.interval.Intervals.{range_of}
-use Rattle.facts.specs.interval.Results.{negation_of, negation_of-is, sum_of, sum_of-is}
-use Rattle.facts.specs.interval.Results.{difference_of, difference_of-is, product_of, product_of-is}
-use Rattle.facts.specs.interval.Results.{quotient_of, quotient_of-is, point_of}
-use Rattle.facts.specs.interval.Results.{whole_interval}
+use Rattle.fx_model.specs.Fraction.{Fraction, ◌+ℚ◌, ◌-ℚ◌, ◌*ℚ◌, ◌/ℚ◌, neg_ℚ, zero_ℚ, one_ℚ, add-neg}
+use Rattle.fx_model.specs.Fraction.{mul-inverse}
+use Rattle.fx_model.specs.Enclosure.{Lies, Sums, Differences, Negations, in_enclosure}
+use Rattle.fx_model.specs.Enclosure.{product_holds}
+use Rattle.fx_model.specs.Expression.{Assignment, IsOrdered, value, node_value, lift₂, quotient}
+use Rattle.fx_model.specs.Expression.{literal_value}
+use Rattle.fx_model.specs.declared.ExprId.{ExprId}
+use Rattle.fx_model.specs.declared.Node.{Node}
+use Rattle.fx_model.specs.declared.Node.TheVariants as node
+use Rattle.grid_words.specs.Products.{quotient_holds}
+use Rattle.interval.specs.declared.interval.Interval.{Interval}
+use Rattle.interval.specs.Intervals.{range_of}
+use Rattle.interval.specs.Results.{negation_of, negation_of-is, sum_of, sum_of-is, difference_of}
+use Rattle.interval.specs.Results.{difference_of-is, product_of, product_of-is, quotient_of}
+use Rattle.interval.specs.Results.{quotient_of-is, point_of, whole_interval}
+use Rattle.interval.specs.Members.{alone_lies}
 use Rattle.expr_dag.specs.Shapes.{is_at, node_at-value}
+use Rattle.expr_dag.specs.Lifted.{at_node, lifted_quotient, lifted_twice, lifted₁, lifted₂}
 use Rattle.facts.specs.declared.fact.Fact.{Fact}
 use Rattle.facts.specs.declared.fact.Fact.TheVariants as fact
 use Rattle.facts.specs.declared.fact.Slot.TheVariants as slot
@@ -26,12 +27,10 @@ use Rattle.facts.specs.Holds.{Holds}
 use Rattle.facts.specs.CommonParts.{if-some}
 use Rattle.facts.specs.Promises.{IsSound}
 use Rattle.facts.specs.Conclusions.{bnd_of, given}
-use Rattle.expr_dag.specs.Lifted.{at_node, lifted_quotient, lifted_twice, lifted₁, lifted₂}
 use Rattle.theorem_arith.specs.Bounds.{literal_at, literal_rule, negation_rule, binary_rule}
 use Rattle.theorem_arith.specs.Bounds.{sum_rule, difference_rule, product_rule}
 use Rattle.theorem_arith.specs.Bounds.{difference_with_itself_rule, quotient_rule}
 use Rattle.theorem_arith.specs.Bounds.{quotient_by_nonzero_rule, quotient_by_itself_rule}
-use Rattle.facts.specs.interval.Members.{alone_lies}
 
 -- ---- literals
 at_literal : (nodes : List Node) (a : Assignment) (e : ExprId) (f : Fact) → IsOrdered nodes

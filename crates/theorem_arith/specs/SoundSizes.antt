@@ -4,25 +4,24 @@ use Rattle.std.specs.Prelude.{slice_get, if◌then◌else◌, refl}
 use Rattle.std.specs.Option.{IsSomeAnd}
 use Rattle.std.proofs.Common.{sym, ap, subst, ◌∙◌, inl, inr, ⊎_elim}
 use Rattle.std.proofs.lemmas.Bool.{and_parts}
-use Rattle.expr_dag.specs.fx_model.Fraction.{Fraction, neg_ℚ, abs_ℚ}
-use Rattle.expr_dag.specs.fx_model.Fraction.{neg-neg}
-use Rattle.expr_dag.specs.fx_model.Grid.{Bound, neg_bound}
-use Rattle.expr_dag.specs.fx_model.Enclosure.{IsFrom, IsUpTo, Lies, BoundLe, Sizes, Negations}
-use Rattle.expr_dag.specs.fx_model.Enclosure.{in_enclosure, up_to_neg, higher_from, lower_up_to}
-use Rattle.expr_dag.specs.fx_model.Expression.{Assignment, IsOrdered, value, lift₁}
-use Rattle.expr_dag.specs.fx_model.declared.ExprId.{ExprId}
-use Rattle.expr_dag.specs.fx_model.declared.Node.{Node}
-use Rattle.expr_dag.specs.fx_model.declared.Node.TheVariants as node
-use Rattle.facts.specs.grid_words.AbsoluteValues.{sides, abs-not_negative, le_abs, neg_abs_le}
-use Rattle.facts.specs.dyadic.Ends.{bound_of}
-use Rattle.facts.specs.dyadic.Order.{le_bound}
-use Rattle.facts.specs.dyadic.Compared.{BoundLe_out}
-use Rattle.facts.specs.interval.declared.interval.Interval.{Interval}
-use Rattle.facts.specs.interval.Intervals.{range_of}
-use Rattle.facts.specs.interval.Members.{between}
-use Rattle.facts.specs.interval.Meets.{interval_from_out}
-use Rattle.facts.specs.interval.Results.{negation_of, negation_of-is, size_of, size_of-is}
+use Rattle.fx_model.specs.Fraction.{Fraction, neg_ℚ, abs_ℚ, neg-neg}
+use Rattle.fx_model.specs.Grid.{Bound, neg_bound, le_bound}
+use Rattle.fx_model.specs.Enclosure.{IsFrom, IsUpTo, Lies, BoundLe, Sizes, Negations, in_enclosure}
+use Rattle.fx_model.specs.Enclosure.{up_to_neg, higher_from, lower_up_to}
+use Rattle.fx_model.specs.Expression.{Assignment, IsOrdered, value, lift₁}
+use Rattle.fx_model.specs.declared.ExprId.{ExprId}
+use Rattle.fx_model.specs.declared.Node.{Node}
+use Rattle.fx_model.specs.declared.Node.TheVariants as node
+use Rattle.grid_words.specs.AbsoluteValues.{sides, abs-not_negative, le_abs, neg_abs_le}
+use Rattle.dyadic.specs.Ends.{bound_of}
+use Rattle.dyadic.specs.Compared.{BoundLe_out}
+use Rattle.interval.specs.declared.interval.Interval.{Interval}
+use Rattle.interval.specs.Intervals.{range_of}
+use Rattle.interval.specs.Members.{between}
+use Rattle.interval.specs.Meets.{interval_from_out}
+use Rattle.interval.specs.Results.{negation_of, negation_of-is, size_of, size_of-is}
 use Rattle.expr_dag.specs.Shapes.{is_at, is_at_out, node_at-value}
+use Rattle.expr_dag.specs.Lifted.{at_node, lifted₁}
 use Rattle.facts.specs.declared.size.Size.{Size}
 use Rattle.facts.specs.declared.fact.Fact.{Fact}
 use Rattle.facts.specs.declared.fact.Fact.TheVariants as fact
@@ -35,7 +34,6 @@ use Rattle.facts.specs.CommonParts.{if-some, expr_same}
 use Rattle.facts.specs.Held.{some-and, both_some}
 use Rattle.facts.specs.Promises.{IsSound}
 use Rattle.facts.specs.Conclusions.{abs_of, bnd_of, given}
-use Rattle.expr_dag.specs.Lifted.{at_node, lifted₁}
 use Rattle.theorem_arith.specs.Shapes.{is_one, one_same}
 use Rattle.theorem_arith.specs.Sizes.{size_rule, around, value_rule, is_less, is_above, is_below}
 use Rattle.theorem_arith.specs.Sizes.{signed_fact, sign_rule, absolute_value_rule, abs_or_void}

@@ -1,12 +1,13 @@
 // Bounds of literals, negations, sums, differences and products.
-ghost use Rattle.std.specs.Prelude.{◌≡◌};
+ghost use Rattle.std.specs.Prelude.{◌≡◌, slice_get};
 ghost use Rattle.theorem_arith.specs.Bounds.{literal_rule, literal_at, negation_rule, sum_rule};
 ghost use Rattle.theorem_arith.specs.Bounds.{difference_rule, product_rule};
 ghost use Rattle.theorem_arith.specs.Bounds.{difference_with_itself_rule, square_rule};
-ghost use Rattle.std.specs.Prelude.{slice_get};
 
-use expr_dag::{Dag, ExprId, Node};
-use facts::{Fact, Interval, Slot, enclose};
+use expr_dag::Dag;
+use fx_model::{ExprId, Node};
+use facts::{Fact, Slot};
+use interval::{Interval, enclose};
 
 /// For a literal c: BND(c, [down c, up c]).
 #[inline(always)]

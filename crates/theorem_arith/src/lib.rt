@@ -1,9 +1,6 @@
 //! Rules on bounds and absolute values: numbers 1 to 19 of the list.
 #![tactic(auto)]
 
-// What callers name of the crates below.
-pub use expr_dag::{Dag, Direction, ExprId, Literal, Node, Rounding};
-pub use facts::{Fact, FixPlace, RelativeError, Slot};
 
 mod bounds;
 mod laws;

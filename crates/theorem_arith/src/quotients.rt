@@ -3,8 +3,10 @@ ghost use Rattle.std.specs.Prelude.{◌≡◌};
 ghost use Rattle.theorem_arith.specs.Bounds.{quotient_rule, quotient_by_nonzero_rule};
 ghost use Rattle.theorem_arith.specs.Bounds.{quotient_by_itself_rule};
 
-use expr_dag::{Dag, Node};
-use facts::{Fact, Interval, Slot};
+use expr_dag::Dag;
+use fx_model::Node;
+use facts::{Fact, Slot};
+use interval::Interval;
 
 /// From BND(a, I), BND(b, J), where 0 isn't in J: BND(a / b, I / J) (Gappa: `div`).
 #[inline(always)]

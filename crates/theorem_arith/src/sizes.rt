@@ -4,8 +4,11 @@ ghost use Rattle.theorem_arith.specs.Sizes.{size_of_negation_rule, size_of_produ
 ghost use Rattle.theorem_arith.specs.Sizes.{size_within_part, size_of_quotient_rule, least_size};
 ghost use Rattle.theorem_arith.specs.Sizes.{size_of_sum, size_of_sum_rule};
 
-use expr_dag::{Dag, Node};
-use facts::{End, Fact, Interval, Size, Slot, greater};
+use expr_dag::Dag;
+use fx_model::Node;
+use dyadic::{End, greater};
+use facts::{Fact, Size, Slot};
+use interval::Interval;
 
 /// From ABS(a, I): ABS(-a, I) (Gappa: `neg_a`).
 #[inline(always)]

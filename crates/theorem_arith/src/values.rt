@@ -1,14 +1,16 @@
 // From values to absolute values, and back.
-ghost use Rattle.std.specs.Prelude.{◌≡◌};
-ghost use Rattle.std.specs.Prelude.{slice_get};
-ghost use Rattle.facts.specs.dyadic.Ends.{bound_of};
+ghost use Rattle.std.specs.Prelude.{◌≡◌, slice_get};
+ghost use Rattle.dyadic.specs.Ends.{bound_of};
 ghost use Rattle.theorem_arith.specs.Sizes.{size_rule, around, value_rule, is_less, is_above};
 ghost use Rattle.theorem_arith.specs.Sizes.{is_below, signed_fact, sign_rule, absolute_value_rule};
 ghost use Rattle.theorem_arith.specs.Sizes.{abs_or_void, void_if_none, is_absolute_value};
 ghost use Rattle.theorem_arith.specs.Sizes.{size_of_value_rule};
 
-use expr_dag::{Dag, ExprId, Node};
-use facts::{End, Fact, Interval, Size, Slot, opposite};
+use expr_dag::Dag;
+use fx_model::{ExprId, Node};
+use dyadic::End;
+use facts::{Fact, Size, Slot};
+use interval::{Interval, opposite};
 
 /// From BND(x, I): ABS(x, abs I) (Gappa: `abs_of_bnd`).
 #[inline(always)]

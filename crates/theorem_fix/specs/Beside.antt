@@ -1,11 +1,10 @@
 -- The multiples of a power of two next to a fraction.
 use Rattle.std.specs.Prelude.{ℤ}
 use Rattle.std.proofs.Common.{sym, subst}
-use Rattle.rounding.specs.fx_model.Fraction.{Fraction, ◌*ℚ◌, ◌≤ℚ◌}
-use Rattle.rounding.specs.fx_model.Powers.{IsMultiple, whole, two_to, two_to-positive}
-use Rattle.rounding.specs.fx_model.Rounded.{whole_for, rounded}
-use Rattle.rounding.specs.fx_model.declared.Direction.TheVariants.{Dn, Up}
-use Rattle.rounding.specs.Sums.{times-le}
+use Rattle.fx_model.specs.Fraction.{Fraction, ◌*ℚ◌, ◌≤ℚ◌, times-le}
+use Rattle.fx_model.specs.Powers.{IsMultiple, whole, two_to, two_to-positive}
+use Rattle.fx_model.specs.Rounded.{whole_for, rounded}
+use Rattle.fx_model.specs.declared.Direction.TheVariants.{Dn, Up}
 use Rattle.rounding.specs.Beside.{dn_below, up_above}
 use Rattle.rounding.specs.Rounded.{units, units-times, rounded-is, rounded-le, rounded-multiple}
 

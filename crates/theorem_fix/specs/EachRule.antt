@@ -1,12 +1,12 @@
 -- What holds of each rule of this crate.
 use Rattle.std.specs.Prelude.{◌≡◌, ◌⊎◌, List, Some}
-use Rattle.rounding.specs.fx_model.declared.Node.{Node}
-use Rattle.theorem_arith.specs.facts.declared.fact.Fact.{Fact}
-use Rattle.theorem_arith.specs.facts.declared.fact.Slot.{Slot}
-use Rattle.theorem_arith.specs.facts.declared.fact.Fact.TheVariants as fact
-use Rattle.theorem_arith.specs.facts.declared.fact.Slot.TheVariants as slot
-use Rattle.theorem_arith.specs.facts.Order.{IsStronger}
-use Rattle.theorem_arith.specs.facts.Promises.{Rule, EachStronger}
+use Rattle.fx_model.specs.declared.Node.{Node}
+use Rattle.facts.specs.declared.fact.Fact.{Fact}
+use Rattle.facts.specs.declared.fact.Slot.{Slot}
+use Rattle.facts.specs.declared.fact.Fact.TheVariants as fact
+use Rattle.facts.specs.declared.fact.Slot.TheVariants as slot
+use Rattle.facts.specs.Order.{IsStronger}
+use Rattle.facts.specs.Promises.{Rule, EachStronger}
 use Rattle.theorem_fix.specs.Multiples.{literal_multiple_rule, multiple_of_negation_rule}
 use Rattle.theorem_fix.specs.Multiples.{multiple_of_sum_rule, multiple_of_product_rule}
 use Rattle.theorem_fix.specs.Multiples.{rounded_multiple_rule, untouched_multiple_rule}

@@ -1,17 +1,17 @@
 -- Worked rows of the rules on roundings and on the multiples in an interval.
 use Rattle.std.specs.Prelude.{◌≡◌, ℕ, pos, negsuc, List, [], ◌∷◌, Some, None, refl}
-use Rattle.rounding.specs.fx_model.Fraction.{Fraction, ◌-ℚ◌, ◌*ℚ◌, neg_ℚ, zero_ℚ, le_refl, mul-mk}
-use Rattle.rounding.specs.fx_model.Fraction.{neg-mk, floor-mk}
-use Rattle.rounding.specs.fx_model.Powers.{two_to, whole, whole-mk, two_to-mk, scaled}
-use Rattle.rounding.specs.fx_model.Grid.{At, Above}
-use Rattle.rounding.specs.fx_model.Enclosure.{Range}
-use Rattle.rounding.specs.fx_model.Rounded.{rounded, whole_for}
-use Rattle.rounding.specs.fx_model.declared.Direction.TheVariants.{Zr, Aw, Dn, Up, Ne}
-use Rattle.rounding.specs.fx_model.declared.ExprId.{ExprId}
-use Rattle.rounding.specs.fx_model.declared.Rounding.{Rounding}
-use Rattle.rounding.specs.fx_model.declared.Node.{Node}
-use Rattle.rounding.specs.fx_model.declared.Node.TheVariants as node
-use Rattle.rounding.specs.dyadic.Compared.{BoundLe_out}
+use Rattle.fx_model.specs.Fraction.{Fraction, ◌-ℚ◌, ◌*ℚ◌, neg_ℚ, zero_ℚ, le_refl, mul-mk, neg-mk}
+use Rattle.fx_model.specs.Fraction.{floor-mk}
+use Rattle.fx_model.specs.Powers.{two_to, whole, whole-mk, two_to-mk, scaled}
+use Rattle.fx_model.specs.Grid.{At, Above}
+use Rattle.fx_model.specs.Enclosure.{Range}
+use Rattle.fx_model.specs.Rounded.{rounded, whole_for}
+use Rattle.fx_model.specs.declared.Direction.TheVariants.{Zr, Aw, Dn, Up, Ne}
+use Rattle.fx_model.specs.declared.ExprId.{ExprId}
+use Rattle.fx_model.specs.declared.Rounding.{Rounding}
+use Rattle.fx_model.specs.declared.Node.{Node}
+use Rattle.fx_model.specs.declared.Node.TheVariants as node
+use Rattle.dyadic.specs.Compared.{BoundLe_out}
 use Rattle.rounding.specs.declared.sign.Sign.TheVariants.{Unknown, NotNegative, Zero}
 use Rattle.rounding.specs.Errors.{error_range}
 use Rattle.theorem_fix.specs.Shapes.{error_rounding_at}

@@ -3,13 +3,13 @@ use Rattle.std.specs.Prelude.{◌≡◌, ℕ, ℤ, pos, negsuc, ◌+ℤ◌, ◌�
 use Rattle.std.specs.Prelude.{Option, Some, None, if◌then◌else◌, refl}
 use Rattle.std.proofs.Common.{zero, suc, sym, ap, subst, ◌∙◌, arith}
 use Rattle.std.proofs.lemmas.Int.{ints, by_lt_z}
-use Rattle.rounding.specs.fx_model.Fraction.{Fraction, ◌≤ℚ◌, le_ℚ, le_refl, le_antisymm}
-use Rattle.rounding.specs.fx_model.Powers.{IsMultiple}
-use Rattle.rounding.specs.fx_model.Rounded.{rounded}
-use Rattle.rounding.specs.fx_model.declared.Direction.TheVariants.{Dn}
+use Rattle.fx_model.specs.Fraction.{Fraction, ◌≤ℚ◌, le_ℚ, le_refl, le_antisymm}
+use Rattle.fx_model.specs.Powers.{IsMultiple}
+use Rattle.fx_model.specs.Rounded.{rounded}
+use Rattle.fx_model.specs.declared.Direction.TheVariants.{Dn}
 use Rattle.rounding.specs.Rounded.{rounded_multiple, rounded-multiple}
-use Rattle.theorem_arith.specs.facts.declared.place.FixPlace.{FixPlace}
-use Rattle.theorem_arith.specs.facts.Places.{place_from, place_from_out, place_from_self}
+use Rattle.facts.specs.declared.place.FixPlace.{FixPlace}
+use Rattle.facts.specs.Places.{place_from, place_from_out, place_from_self}
 use Rattle.theorem_fix.specs.Beside.{rounded_below}
 
 -- rounding it down to a multiple of 2^k changes nothing

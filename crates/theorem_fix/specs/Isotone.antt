@@ -5,33 +5,30 @@ use Rattle.std.specs.Prelude.{Option, Some, None, if◌then◌else◌, refl}
 use Rattle.std.specs.Int.RustNames.{int_lt}
 use Rattle.std.proofs.Common.{sym, ap, subst, ◌∙◌, arith}
 use Rattle.std.proofs.lemmas.Int.{ints}
-use Rattle.rounding.specs.fx_model.Fraction.{Fraction, le_antisymm}
-use Rattle.rounding.specs.fx_model.Grid.{Bound, Below, At, Above}
-use Rattle.rounding.specs.fx_model.Enclosure.{BoundLe, IsOrdered}
-use Rattle.rounding.specs.fx_model.declared.Rounding.{Rounding}
-use Rattle.rounding.specs.fx_model.declared.Node.TheVariants as node
-use Rattle.rounding.specs.dyadic.declared.number.Dyadic.{Dyadic}
-use Rattle.rounding.specs.dyadic.declared.number.End.{End}
-use Rattle.rounding.specs.dyadic.declared.number.End.TheVariants as end
-use Rattle.rounding.specs.dyadic.Values.{value_of}
-use Rattle.rounding.specs.dyadic.Ends.{bound_of, same_bound}
-use Rattle.rounding.specs.dyadic.Order.{le_bound}
-use Rattle.rounding.specs.dyadic.Compared.{BoundLe_in}
-use Rattle.rounding.specs.dyadic.Extremes.{BoundLe-trans}
-use Rattle.rounding.specs.interval.declared.interval.Interval.{Interval}
-use Rattle.theorem_arith.specs.expr_dag.Shapes.{is_at}
-use Rattle.theorem_arith.specs.facts.declared.place.FixPlace.{FixPlace}
-use Rattle.theorem_arith.specs.facts.declared.fact.Fact.TheVariants as fact
-use Rattle.theorem_arith.specs.facts.declared.fact.Slot.TheVariants as slot
-use Rattle.theorem_arith.specs.facts.Laws.{IsStronger-refl}
-use Rattle.theorem_arith.specs.facts.Promises.{IsIsotone}
-use Rattle.theorem_arith.specs.facts.Premises.{Gives, no_premises, one_bnd, one_fix, two_fix}
+use Rattle.fx_model.specs.Fraction.{Fraction, le_antisymm}
+use Rattle.fx_model.specs.Grid.{Bound, Below, At, Above, le_bound}
+use Rattle.fx_model.specs.Enclosure.{BoundLe, IsOrdered}
+use Rattle.fx_model.specs.declared.Rounding.{Rounding}
+use Rattle.fx_model.specs.declared.Node.TheVariants as node
+use Rattle.dyadic.specs.declared.number.Dyadic.{Dyadic}
+use Rattle.dyadic.specs.declared.number.End.{End}
+use Rattle.dyadic.specs.declared.number.End.TheVariants as end
+use Rattle.dyadic.specs.Values.{value_of}
+use Rattle.dyadic.specs.Ends.{bound_of, same_bound}
+use Rattle.dyadic.specs.Compared.{BoundLe_in}
+use Rattle.dyadic.specs.Extremes.{BoundLe-trans}
+use Rattle.interval.specs.declared.interval.Interval.{Interval}
 use Rattle.rounding.specs.Places.{less, not_less}
-use Rattle.theorem_arith.specs.facts.Conclusions.{fix_of, improves_fix, improves_given}
-use Rattle.theorem_arith.specs.facts.Conclusions.{improves_only}
+use Rattle.expr_dag.specs.Shapes.{is_at}
+use Rattle.facts.specs.declared.place.FixPlace.{FixPlace}
+use Rattle.facts.specs.declared.fact.Fact.TheVariants as fact
+use Rattle.facts.specs.declared.fact.Slot.TheVariants as slot
+use Rattle.facts.specs.Laws.{IsStronger-refl}
+use Rattle.facts.specs.Promises.{IsIsotone}
+use Rattle.facts.specs.Premises.{Gives, no_premises, one_bnd, one_fix, two_fix}
+use Rattle.facts.specs.Conclusions.{fix_of, improves_fix, improves_given, improves_only}
+use Rattle.facts.specs.Places.{place_from-some, place_from_out, kept, sum_place, lesser_place}
 use Rattle.theorem_arith.specs.Shapes.{is_one}
-use Rattle.theorem_arith.specs.facts.Places.{place_from-some, place_from_out, kept, sum_place}
-use Rattle.theorem_arith.specs.facts.Places.{lesser_place}
 use Rattle.theorem_fix.specs.Shapes.{rounding_at}
 use Rattle.theorem_fix.specs.Multiples.{literal_multiple_rule, multiple_of_negation_rule}
 use Rattle.theorem_fix.specs.Multiples.{multiple_of_sum_rule, multiple_of_product_rule}

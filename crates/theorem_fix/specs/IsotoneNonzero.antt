@@ -2,29 +2,28 @@
 use Rattle.std.specs.Prelude.{◌≡◌, ◌&&◌, ◌||◌, not, Bool, true, false, [], ◌∷◌, Option, Some, None}
 use Rattle.std.specs.Prelude.{refl}
 use Rattle.std.proofs.Common.{sym, subst}
-use Rattle.rounding.specs.fx_model.Fraction.{zero_ℚ}
-use Rattle.rounding.specs.fx_model.declared.ExprId.{ExprId}
-use Rattle.rounding.specs.fx_model.declared.Node.{Node}
-use Rattle.rounding.specs.fx_model.declared.Node.TheVariants as node
-use Rattle.rounding.specs.interval.declared.interval.Interval.{Interval}
-use Rattle.rounding.specs.interval.Intervals.{range_of}
-use Rattle.rounding.specs.interval.Results.{has_zero}
-use Rattle.rounding.specs.interval.Members.{zero_test, zero_found, grown}
-use Rattle.theorem_arith.specs.expr_dag.Shapes.{are_known}
-use Rattle.theorem_arith.specs.facts.declared.size.Size.{Size}
-use Rattle.theorem_arith.specs.facts.declared.relative.RelativeError.{RelativeError}
-use Rattle.theorem_arith.specs.facts.declared.fact.Fact.TheVariants as fact
-use Rattle.theorem_arith.specs.facts.declared.fact.Slot.TheVariants as slot
-use Rattle.theorem_arith.specs.facts.CommonParts.{and_rises}
-use Rattle.theorem_arith.specs.facts.Order.{IsWithin, IsWithinError, IsStronger, is_same}
-use Rattle.theorem_arith.specs.facts.Laws.{IsStronger-refl}
-use Rattle.theorem_arith.specs.facts.Ranges.{is_below, is_below_in, is_below_out, IsBelow-mono}
-use Rattle.theorem_arith.specs.facts.Promises.{IsIsotone}
-use Rattle.theorem_arith.specs.facts.Premises.{Gives, one_bnd, one_abs, one_nzr, two_nzr}
-use Rattle.theorem_arith.specs.facts.Conclusions.{improves_given, improves_if, improves_only}
-use Rattle.theorem_arith.specs.facts.RelativePremises.{rel_then_nzr}
-use Rattle.theorem_arith.specs.facts.RelativeConclusions.{void_only, improves_fact}
-use Rattle.theorem_arith.specs.facts.RelativeConclusions.{improves_void_only}
+use Rattle.fx_model.specs.Fraction.{zero_ℚ}
+use Rattle.fx_model.specs.declared.ExprId.{ExprId}
+use Rattle.fx_model.specs.declared.Node.{Node}
+use Rattle.fx_model.specs.declared.Node.TheVariants as node
+use Rattle.interval.specs.declared.interval.Interval.{Interval}
+use Rattle.interval.specs.Intervals.{range_of}
+use Rattle.interval.specs.Results.{has_zero}
+use Rattle.interval.specs.Members.{zero_test, zero_found, grown}
+use Rattle.expr_dag.specs.Shapes.{are_known}
+use Rattle.facts.specs.declared.size.Size.{Size}
+use Rattle.facts.specs.declared.relative.RelativeError.{RelativeError}
+use Rattle.facts.specs.declared.fact.Fact.TheVariants as fact
+use Rattle.facts.specs.declared.fact.Slot.TheVariants as slot
+use Rattle.facts.specs.CommonParts.{and_rises}
+use Rattle.facts.specs.Order.{IsWithin, IsWithinError, IsStronger, is_same}
+use Rattle.facts.specs.Laws.{IsStronger-refl}
+use Rattle.facts.specs.Ranges.{is_below, is_below_in, is_below_out, IsBelow-mono}
+use Rattle.facts.specs.Promises.{IsIsotone}
+use Rattle.facts.specs.Premises.{Gives, one_bnd, one_abs, one_nzr, two_nzr}
+use Rattle.facts.specs.Conclusions.{improves_given, improves_if, improves_only}
+use Rattle.facts.specs.RelativePremises.{rel_then_nzr}
+use Rattle.facts.specs.RelativeConclusions.{void_only, improves_fact, improves_void_only}
 use Rattle.theorem_arith.specs.Shapes.{is_one}
 use Rattle.theorem_fix.specs.Nonzero.{nonzero_bound_rule, nonzero_size_rule, nonzero_binary_rule}
 use Rattle.theorem_fix.specs.Nonzero.{nonzero_product_rule, nonzero_quotient_rule}

@@ -1,26 +1,25 @@
 -- The rules on roundings: from stronger premises they give a fact as strong, or stronger.
 use Rattle.std.specs.Prelude.{◌≡◌, ℤ, ◌≤ℤ◌, [], ◌∷◌, Bool, true, false, Option, Some, None, refl}
 use Rattle.std.proofs.Common.{sym, subst}
-use Rattle.rounding.specs.fx_model.Fraction.{zero_ℚ}
-use Rattle.rounding.specs.fx_model.Grid.{Bound, At}
-use Rattle.rounding.specs.fx_model.Enclosure.{BoundLe, within_in}
-use Rattle.rounding.specs.fx_model.declared.Rounding.{Rounding}
-use Rattle.rounding.specs.dyadic.Order.{le_bound}
-use Rattle.rounding.specs.dyadic.Compared.{BoundLe_in, BoundLe_out}
-use Rattle.rounding.specs.dyadic.Extremes.{BoundLe-trans, BoundLe-refl}
-use Rattle.rounding.specs.interval.declared.interval.Interval.{Interval}
-use Rattle.rounding.specs.interval.Intervals.{range_of}
+use Rattle.fx_model.specs.Fraction.{zero_ℚ}
+use Rattle.fx_model.specs.Grid.{Bound, At, le_bound}
+use Rattle.fx_model.specs.Enclosure.{BoundLe, within_in}
+use Rattle.fx_model.specs.declared.Rounding.{Rounding}
+use Rattle.dyadic.specs.Compared.{BoundLe_in, BoundLe_out}
+use Rattle.dyadic.specs.Extremes.{BoundLe-trans, BoundLe-refl}
+use Rattle.interval.specs.declared.interval.Interval.{Interval}
+use Rattle.interval.specs.Intervals.{range_of}
+use Rattle.interval.specs.Outward.{outward_of-within}
 use Rattle.rounding.specs.declared.sign.Sign.{Sign}
 use Rattle.rounding.specs.declared.sign.Sign.TheVariants.{Unknown, NotNegative, NotPositive, Zero}
 use Rattle.rounding.specs.Errors.{error_range}
-use Rattle.theorem_arith.specs.facts.declared.fact.Fact.TheVariants as fact
-use Rattle.theorem_arith.specs.facts.declared.fact.Slot.TheVariants as slot
-use Rattle.theorem_arith.specs.facts.Order.{IsWithin}
-use Rattle.theorem_arith.specs.facts.Laws.{IsStronger-refl}
-use Rattle.theorem_arith.specs.facts.Promises.{IsIsotone}
-use Rattle.theorem_arith.specs.facts.Premises.{Gives, one_bnd, one_fix}
-use Rattle.theorem_arith.specs.facts.Conclusions.{improves_bnd}
-use Rattle.rounding.specs.interval.Outward.{outward_of-within}
+use Rattle.facts.specs.declared.fact.Fact.TheVariants as fact
+use Rattle.facts.specs.declared.fact.Slot.TheVariants as slot
+use Rattle.facts.specs.Order.{IsWithin}
+use Rattle.facts.specs.Laws.{IsStronger-refl}
+use Rattle.facts.specs.Promises.{IsIsotone}
+use Rattle.facts.specs.Premises.{Gives, one_bnd, one_fix}
+use Rattle.facts.specs.Conclusions.{improves_bnd}
 use Rattle.theorem_fix.specs.Shapes.{rounding_at, error_rounding_at}
 use Rattle.theorem_fix.specs.Ranges.{rounded_range_ordered, rounded_range-within}
 use Rattle.theorem_fix.specs.Ranges.{error_range_ordered, zero_errors, multiple_errors-falls}

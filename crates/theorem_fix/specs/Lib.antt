@@ -1,6 +1,3 @@
--- What callers name of the crates below.
-pub use Rattle.rounding.specs as rounding
-pub use Rattle.theorem_arith.specs as theorem_arith
 pub mod Shapes
 pub mod Beside
 pub mod Greatest

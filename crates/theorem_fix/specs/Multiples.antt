@@ -4,24 +4,24 @@
 use Rattle.std.specs.Prelude.{◌==◌, ◌||◌, pos, Bool, List, [], ◌∷◌, Option, Some, None, slice_get}
 use Rattle.std.specs.Prelude.{if◌then◌else◌}
 use Rattle.std.specs.Int.RustNames.{int_lt, unsigned_abs}
-use Rattle.rounding.specs.fx_model.Expression.{literal_value}
-use Rattle.rounding.specs.fx_model.declared.Rounding.{Rounding}
-use Rattle.rounding.specs.fx_model.declared.Node.{Node}
-use Rattle.rounding.specs.fx_model.declared.Node.TheVariants as node
-use Rattle.rounding.specs.dyadic.declared.number.Dyadic.{Dyadic}
-use Rattle.rounding.specs.dyadic.declared.number.End.{End}
-use Rattle.rounding.specs.dyadic.declared.number.End.TheVariants as end
-use Rattle.rounding.specs.dyadic.Order.{le_bound}
-use Rattle.rounding.specs.dyadic.Ends.{bound_of}
-use Rattle.theorem_arith.specs.expr_dag.Shapes.{is_at}
-use Rattle.theorem_arith.specs.facts.declared.place.FixPlace.{FixPlace}
-use Rattle.theorem_arith.specs.facts.declared.fact.Fact.{Fact}
-use Rattle.theorem_arith.specs.facts.declared.fact.Slot.{Slot}
-use Rattle.theorem_arith.specs.facts.declared.fact.Fact.TheVariants as fact
-use Rattle.theorem_arith.specs.facts.declared.fact.Slot.TheVariants as slot
-use Rattle.theorem_arith.specs.facts.Conclusions.{fix_of, given_if, only_if}
+use Rattle.fx_model.specs.Expression.{literal_value}
+use Rattle.fx_model.specs.declared.Rounding.{Rounding}
+use Rattle.fx_model.specs.declared.Node.{Node}
+use Rattle.fx_model.specs.declared.Node.TheVariants as node
+use Rattle.fx_model.specs.Grid.{le_bound}
+use Rattle.dyadic.specs.declared.number.Dyadic.{Dyadic}
+use Rattle.dyadic.specs.declared.number.End.{End}
+use Rattle.dyadic.specs.declared.number.End.TheVariants as end
+use Rattle.dyadic.specs.Ends.{bound_of}
+use Rattle.expr_dag.specs.Shapes.{is_at}
+use Rattle.facts.specs.declared.place.FixPlace.{FixPlace}
+use Rattle.facts.specs.declared.fact.Fact.{Fact}
+use Rattle.facts.specs.declared.fact.Slot.{Slot}
+use Rattle.facts.specs.declared.fact.Fact.TheVariants as fact
+use Rattle.facts.specs.declared.fact.Slot.TheVariants as slot
+use Rattle.facts.specs.Conclusions.{fix_of, given_if, only_if}
+use Rattle.facts.specs.Places.{place_from, kept, sum_place, lesser_place}
 use Rattle.theorem_arith.specs.Shapes.{is_one}
-use Rattle.theorem_arith.specs.facts.Places.{place_from, kept, sum_place, lesser_place}
 use Rattle.theorem_fix.specs.Greatest.{greatest_place}
 use Rattle.theorem_fix.specs.Shapes.{rounding_at}
 

@@ -1,22 +1,22 @@
 -- Rules on values other than 0, numbers 31 to 36 of the list: each row as a function from premises
 -- and a target to its conclusion. What fits no row gives nothing.
 use Rattle.std.specs.Prelude.{◌&&◌, ◌||◌, not, Bool, List, [], ◌∷◌, Option, Some, None}
-use Rattle.rounding.specs.fx_model.Fraction.{zero_ℚ}
-use Rattle.rounding.specs.fx_model.declared.ExprId.{ExprId}
-use Rattle.rounding.specs.fx_model.declared.Node.{Node}
-use Rattle.rounding.specs.fx_model.declared.Node.TheVariants as node
-use Rattle.rounding.specs.interval.Intervals.{range_of}
-use Rattle.rounding.specs.interval.Results.{has_zero}
-use Rattle.theorem_arith.specs.expr_dag.Shapes.{is_at, are_known}
-use Rattle.theorem_arith.specs.facts.declared.relative.RelativeError.{RelativeError}
-use Rattle.theorem_arith.specs.facts.declared.fact.Fact.{Fact}
-use Rattle.theorem_arith.specs.facts.declared.fact.Slot.{Slot}
-use Rattle.theorem_arith.specs.facts.declared.fact.Fact.TheVariants as fact
-use Rattle.theorem_arith.specs.facts.declared.fact.Slot.TheVariants as slot
-use Rattle.theorem_arith.specs.facts.Order.{is_same}
-use Rattle.theorem_arith.specs.facts.Ranges.{is_below}
-use Rattle.theorem_arith.specs.facts.Conclusions.{given_if, only_if}
-use Rattle.theorem_arith.specs.facts.RelativeConclusions.{void_only}
+use Rattle.fx_model.specs.Fraction.{zero_ℚ}
+use Rattle.fx_model.specs.declared.ExprId.{ExprId}
+use Rattle.fx_model.specs.declared.Node.{Node}
+use Rattle.fx_model.specs.declared.Node.TheVariants as node
+use Rattle.interval.specs.Intervals.{range_of}
+use Rattle.interval.specs.Results.{has_zero}
+use Rattle.expr_dag.specs.Shapes.{is_at, are_known}
+use Rattle.facts.specs.declared.relative.RelativeError.{RelativeError}
+use Rattle.facts.specs.declared.fact.Fact.{Fact}
+use Rattle.facts.specs.declared.fact.Slot.{Slot}
+use Rattle.facts.specs.declared.fact.Fact.TheVariants as fact
+use Rattle.facts.specs.declared.fact.Slot.TheVariants as slot
+use Rattle.facts.specs.Order.{is_same}
+use Rattle.facts.specs.Ranges.{is_below}
+use Rattle.facts.specs.Conclusions.{given_if, only_if}
+use Rattle.facts.specs.RelativeConclusions.{void_only}
 use Rattle.theorem_arith.specs.Shapes.{is_one}
 
 -- 31: from BND(x, I), where 0 isn't in I: NZR(x)   (Gappa: `nzr_of_bnd`)

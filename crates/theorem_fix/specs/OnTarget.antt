@@ -2,26 +2,26 @@
 use Rattle.std.specs.Prelude.{◌≡◌, ◌⊎◌, ◌&&◌, ◌||◌, not, [], ◌∷◌, Option, Some, None, slice_get}
 use Rattle.std.specs.Prelude.{refl}
 use Rattle.std.proofs.Common.{inl, inr}
-use Rattle.rounding.specs.fx_model.Fraction.{zero_ℚ}
-use Rattle.rounding.specs.fx_model.declared.ExprId.{ExprId}
-use Rattle.rounding.specs.fx_model.declared.Node.{Node}
-use Rattle.rounding.specs.fx_model.declared.Node.TheVariants as node
-use Rattle.rounding.specs.interval.declared.interval.Interval.{Interval}
-use Rattle.rounding.specs.interval.Intervals.{range_of}
-use Rattle.rounding.specs.interval.Results.{has_zero}
-use Rattle.theorem_arith.specs.expr_dag.Shapes.{is_at, are_known}
+use Rattle.fx_model.specs.Fraction.{zero_ℚ}
+use Rattle.fx_model.specs.declared.ExprId.{ExprId}
+use Rattle.fx_model.specs.declared.Node.{Node}
+use Rattle.fx_model.specs.declared.Node.TheVariants as node
+use Rattle.interval.specs.declared.interval.Interval.{Interval}
+use Rattle.interval.specs.Intervals.{range_of}
+use Rattle.interval.specs.Results.{has_zero}
 use Rattle.rounding.specs.declared.sign.Sign.TheVariants.{Unknown}
-use Rattle.theorem_arith.specs.facts.declared.relative.RelativeError.{RelativeError}
-use Rattle.theorem_arith.specs.facts.declared.fact.Fact.TheVariants as fact
-use Rattle.theorem_arith.specs.facts.declared.fact.Slot.TheVariants as slot
-use Rattle.theorem_arith.specs.facts.Order.{slot_of, is_same}
-use Rattle.theorem_arith.specs.facts.Ranges.{is_below}
-use Rattle.theorem_arith.specs.facts.Promises.{IsOnTarget}
-use Rattle.theorem_arith.specs.facts.Conclusions.{StandsOn, bnd_of, bnd_stands, fact_stands, fix_of}
-use Rattle.theorem_arith.specs.facts.Conclusions.{fix_stands, given_stands, only_stands}
-use Rattle.theorem_arith.specs.facts.RelativeConclusions.{void_only, void_only_stands}
+use Rattle.expr_dag.specs.Shapes.{is_at, are_known}
+use Rattle.facts.specs.declared.relative.RelativeError.{RelativeError}
+use Rattle.facts.specs.declared.fact.Fact.TheVariants as fact
+use Rattle.facts.specs.declared.fact.Slot.TheVariants as slot
+use Rattle.facts.specs.Order.{slot_of, is_same}
+use Rattle.facts.specs.Ranges.{is_below}
+use Rattle.facts.specs.Promises.{IsOnTarget}
+use Rattle.facts.specs.Conclusions.{StandsOn, bnd_of, bnd_stands, fact_stands, fix_of, fix_stands}
+use Rattle.facts.specs.Conclusions.{given_stands, only_stands}
+use Rattle.facts.specs.RelativeConclusions.{void_only, void_only_stands}
+use Rattle.facts.specs.Places.{lesser_place, sum_place}
 use Rattle.theorem_arith.specs.Shapes.{is_one}
-use Rattle.theorem_arith.specs.facts.Places.{lesser_place, sum_place}
 use Rattle.theorem_fix.specs.Shapes.{rounding_at, error_rounding_at}
 use Rattle.theorem_fix.specs.Multiples.{literal_place, literal_multiple_rule}
 use Rattle.theorem_fix.specs.Multiples.{multiple_of_negation_rule, multiple_of_sum_rule}

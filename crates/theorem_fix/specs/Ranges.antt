@@ -4,15 +4,14 @@ use Rattle.std.specs.Prelude.{refl}
 use Rattle.std.specs.Int.RustNames.{int_lt}
 use Rattle.std.proofs.Common.{sym, arith}
 use Rattle.std.proofs.lemmas.Int.{ints}
-use Rattle.rounding.specs.fx_model.Fraction.{Fraction, ◌-ℚ◌, ◌≤ℚ◌, zero_ℚ, le_refl, add-le, neg-le}
-use Rattle.rounding.specs.fx_model.Fraction.{lt_le}
-use Rattle.rounding.specs.fx_model.Powers.{two_to, two_to-positive, scaled-zero}
-use Rattle.rounding.specs.fx_model.Grid.{Bound, Below, At, Above}
-use Rattle.rounding.specs.fx_model.Enclosure.{Range, Lies, IsOrdered, BoundLe, Within, ordered_by}
-use Rattle.rounding.specs.fx_model.Rounded.{rounded}
-use Rattle.rounding.specs.fx_model.declared.Direction.{Direction}
-use Rattle.rounding.specs.fx_model.declared.Direction.TheVariants.{Zr, Aw}
-use Rattle.rounding.specs.fx_model.declared.Rounding.{Rounding}
+use Rattle.fx_model.specs.Fraction.{Fraction, ◌-ℚ◌, ◌≤ℚ◌, zero_ℚ, le_refl, add-le, neg-le, lt_le}
+use Rattle.fx_model.specs.Powers.{two_to, two_to-positive, scaled-zero}
+use Rattle.fx_model.specs.Grid.{Bound, Below, At, Above}
+use Rattle.fx_model.specs.Enclosure.{Range, Lies, IsOrdered, BoundLe, Within, ordered_by}
+use Rattle.fx_model.specs.Rounded.{rounded}
+use Rattle.fx_model.specs.declared.Direction.{Direction}
+use Rattle.fx_model.specs.declared.Direction.TheVariants.{Zr, Aw}
+use Rattle.fx_model.specs.declared.Rounding.{Rounding}
 use Rattle.rounding.specs.declared.sign.Sign.{Sign}
 use Rattle.rounding.specs.declared.sign.Sign.TheVariants.{Unknown, NotNegative, NotPositive, Zero}
 use Rattle.rounding.specs.Sums.{sub-from}

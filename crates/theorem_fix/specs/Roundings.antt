@@ -2,26 +2,25 @@
 -- target to its conclusion. What fits no row gives nothing.
 use Rattle.std.specs.Prelude.{ℤ, Bool, true, false, List, [], ◌∷◌, Option, Some, None}
 use Rattle.std.specs.Prelude.{if◌then◌else◌}
-use Rattle.rounding.specs.fx_model.Fraction.{zero_ℚ}
-use Rattle.rounding.specs.fx_model.Grid.{Bound, Below, At, Above}
-use Rattle.rounding.specs.fx_model.Enclosure.{Range}
-use Rattle.rounding.specs.fx_model.Rounded.{rounded}
-use Rattle.rounding.specs.fx_model.declared.Direction.{Direction}
-use Rattle.rounding.specs.fx_model.declared.Direction.TheVariants.{Zr, Aw}
-use Rattle.rounding.specs.fx_model.declared.Rounding.{Rounding}
-use Rattle.rounding.specs.fx_model.declared.Node.{Node}
-use Rattle.rounding.specs.dyadic.Order.{le_bound}
-use Rattle.rounding.specs.interval.declared.interval.Interval.{Interval}
-use Rattle.rounding.specs.interval.Intervals.{range_of}
+use Rattle.fx_model.specs.Fraction.{zero_ℚ}
+use Rattle.fx_model.specs.Grid.{Bound, Below, At, Above, le_bound}
+use Rattle.fx_model.specs.Enclosure.{Range}
+use Rattle.fx_model.specs.Rounded.{rounded}
+use Rattle.fx_model.specs.declared.Direction.{Direction}
+use Rattle.fx_model.specs.declared.Direction.TheVariants.{Zr, Aw}
+use Rattle.fx_model.specs.declared.Rounding.{Rounding}
+use Rattle.fx_model.specs.declared.Node.{Node}
+use Rattle.interval.specs.declared.interval.Interval.{Interval}
+use Rattle.interval.specs.Intervals.{range_of}
+use Rattle.interval.specs.Outward.{outward_of}
 use Rattle.rounding.specs.declared.sign.Sign.{Sign}
 use Rattle.rounding.specs.declared.sign.Sign.TheVariants.{Unknown, NotNegative, NotPositive, Zero}
 use Rattle.rounding.specs.Errors.{error_range}
-use Rattle.theorem_arith.specs.facts.declared.fact.Fact.{Fact}
-use Rattle.theorem_arith.specs.facts.declared.fact.Slot.{Slot}
-use Rattle.theorem_arith.specs.facts.declared.fact.Fact.TheVariants as fact
-use Rattle.theorem_arith.specs.facts.declared.fact.Slot.TheVariants as slot
-use Rattle.theorem_arith.specs.facts.Conclusions.{bnd_of}
-use Rattle.rounding.specs.interval.Outward.{outward_of}
+use Rattle.facts.specs.declared.fact.Fact.{Fact}
+use Rattle.facts.specs.declared.fact.Slot.{Slot}
+use Rattle.facts.specs.declared.fact.Fact.TheVariants as fact
+use Rattle.facts.specs.declared.fact.Slot.TheVariants as slot
+use Rattle.facts.specs.Conclusions.{bnd_of}
 use Rattle.theorem_fix.specs.Shapes.{rounding_at, error_rounding_at}
 
 -- ---- rounded values

@@ -1,11 +1,11 @@
 -- Conclusions on multiples, and roundings of an expression.
 use Rattle.std.specs.Prelude.{⊤, ◌≤ℤ◌, pos, negsuc, List, Option, Some, None, slice_get}
 use Rattle.std.specs.Prelude.{if◌then◌else◌}
-use Rattle.rounding.specs.fx_model.declared.ExprId.{ExprId}
-use Rattle.rounding.specs.fx_model.declared.Rounding.{Rounding}
-use Rattle.rounding.specs.fx_model.declared.Node.{Node}
-use Rattle.rounding.specs.fx_model.declared.Node.TheVariants as node
-use Rattle.theorem_arith.specs.facts.Order.{is_same}
+use Rattle.fx_model.specs.declared.ExprId.{ExprId}
+use Rattle.fx_model.specs.declared.Rounding.{Rounding}
+use Rattle.fx_model.specs.declared.Node.{Node}
+use Rattle.fx_model.specs.declared.Node.TheVariants as node
+use Rattle.facts.specs.Order.{is_same}
 
 -- the rounding, where the node is one of x
 abbrev pub rounding_of : Option Node → ExprId → Option Rounding

@@ -3,33 +3,32 @@ use Rattle.std.specs.Prelude.{◌≡◌, ◌⊎◌, ◌&&◌, ◌≤ℤ◌, true
 use Rattle.std.specs.Option.{IsSomeAnd}
 use Rattle.std.proofs.Common.{sym, ap, subst, ◌∙◌, inl, inr}
 use Rattle.std.proofs.lemmas.Bool.{and_parts}
-use Rattle.rounding.specs.fx_model.Fraction.{Fraction}
-use Rattle.rounding.specs.fx_model.Powers.{IsMultiple}
-use Rattle.rounding.specs.fx_model.Enclosure.{Lies, Within, member_of, ordered_by, within_in}
-use Rattle.rounding.specs.fx_model.Expression.{value}
-use Rattle.rounding.specs.fx_model.declared.ExprId.{ExprId}
-use Rattle.rounding.specs.fx_model.declared.Node.{Node}
-use Rattle.rounding.specs.interval.declared.interval.Interval.{Interval}
-use Rattle.rounding.specs.interval.Intervals.{range_of}
-use Rattle.theorem_arith.specs.facts.declared.place.FixPlace.{FixPlace}
-use Rattle.theorem_arith.specs.facts.declared.fact.Fact.{Fact}
-use Rattle.theorem_arith.specs.facts.declared.fact.Fact.TheVariants as fact
-use Rattle.theorem_arith.specs.facts.declared.fact.Slot.TheVariants as slot
-use Rattle.theorem_arith.specs.facts.CommonParts.{expr_same, some-inj}
-use Rattle.theorem_arith.specs.facts.Order.{IsWithin, is_same}
-use Rattle.theorem_arith.specs.facts.Promises.{IsSound, IsIsotone, EachStronger}
-use Rattle.theorem_arith.specs.facts.Premises.{Gives, strong_bnd, first_premise, one_fix}
-use Rattle.theorem_arith.specs.facts.Conclusions.{bnd_of, given, given_if, improves_bnd}
-use Rattle.theorem_arith.specs.facts.Conclusions.{improves_given}
+use Rattle.fx_model.specs.Fraction.{Fraction}
+use Rattle.fx_model.specs.Powers.{IsMultiple}
+use Rattle.fx_model.specs.Enclosure.{Lies, Within, member_of, ordered_by, within_in}
+use Rattle.fx_model.specs.Expression.{value}
+use Rattle.fx_model.specs.declared.ExprId.{ExprId}
+use Rattle.fx_model.specs.declared.Node.{Node}
+use Rattle.interval.specs.declared.interval.Interval.{Interval}
+use Rattle.interval.specs.Intervals.{range_of}
+use Rattle.interval.specs.Outward.{outward_of_lies}
+use Rattle.facts.specs.declared.place.FixPlace.{FixPlace}
+use Rattle.facts.specs.declared.fact.Fact.{Fact}
+use Rattle.facts.specs.declared.fact.Fact.TheVariants as fact
+use Rattle.facts.specs.declared.fact.Slot.TheVariants as slot
+use Rattle.facts.specs.CommonParts.{expr_same, some-inj}
+use Rattle.facts.specs.Order.{IsWithin, is_same}
+use Rattle.facts.specs.Promises.{IsSound, IsIsotone, EachStronger}
+use Rattle.facts.specs.Premises.{Gives, strong_bnd, first_premise, one_fix}
+use Rattle.facts.specs.Conclusions.{bnd_of, given, given_if, improves_bnd, improves_given}
+use Rattle.facts.specs.Held.{both_some}
 use Rattle.theorem_arith.specs.Shapes.{is_one, one_same}
+use Rattle.theorem_arith.specs.Sound.{bnd_given}
 use Rattle.theorem_fix.specs.EachRule.{IsIsotoneOrVoid}
-use Rattle.rounding.specs.interval.Outward.{outward_of_lies}
 use Rattle.theorem_fix.specs.Shrunk.{shrunk_range, shrunk_of, shrinking_rule, void_without}
 use Rattle.theorem_fix.specs.Shrunk.{no_multiple_rule}
 use Rattle.theorem_fix.specs.ShrunkRanges.{shrunk_ends, shrunk_some, shrunk_ordered, multiple_lies}
 use Rattle.theorem_fix.specs.ShrunkRanges.{shrunk_within}
-use Rattle.theorem_arith.specs.facts.Held.{both_some}
-use Rattle.theorem_arith.specs.Sound.{bnd_given}
 
 -- ---- sound
 neither_known : (u : Option Fraction) (P Q : Fraction → Type 0) → ((x : Fraction) → P x → Q x → ⊥)

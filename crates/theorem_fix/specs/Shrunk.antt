@@ -1,20 +1,20 @@
 -- Rules on the multiples in an interval, numbers 28 and 90 of the list: each row as a function from
 -- premises and a target to its conclusion. What fits no row gives nothing.
 use Rattle.std.specs.Prelude.{◌&&◌, ℤ, List, [], ◌∷◌, Option, Some, None}
-use Rattle.rounding.specs.fx_model.Enclosure.{Range}
-use Rattle.rounding.specs.fx_model.declared.Node.{Node}
-use Rattle.rounding.specs.fx_model.declared.Direction.TheVariants.{Dn, Up}
-use Rattle.rounding.specs.interval.declared.interval.Interval.{Interval}
-use Rattle.rounding.specs.interval.Intervals.{range_of}
-use Rattle.theorem_arith.specs.facts.declared.fact.Fact.{Fact}
-use Rattle.theorem_arith.specs.facts.declared.fact.Slot.{Slot}
-use Rattle.theorem_arith.specs.facts.declared.fact.Fact.TheVariants as fact
-use Rattle.theorem_arith.specs.facts.declared.fact.Slot.TheVariants as slot
-use Rattle.theorem_arith.specs.facts.declared.place.FixPlace.{FixPlace}
-use Rattle.theorem_arith.specs.facts.Order.{is_same}
-use Rattle.theorem_arith.specs.facts.Conclusions.{bnd_of, given_if}
+use Rattle.fx_model.specs.Enclosure.{Range}
+use Rattle.fx_model.specs.declared.Node.{Node}
+use Rattle.fx_model.specs.declared.Direction.TheVariants.{Dn, Up}
+use Rattle.interval.specs.declared.interval.Interval.{Interval}
+use Rattle.interval.specs.Intervals.{range_of}
+use Rattle.interval.specs.Outward.{outward_of}
+use Rattle.facts.specs.declared.fact.Fact.{Fact}
+use Rattle.facts.specs.declared.fact.Slot.{Slot}
+use Rattle.facts.specs.declared.fact.Fact.TheVariants as fact
+use Rattle.facts.specs.declared.fact.Slot.TheVariants as slot
+use Rattle.facts.specs.declared.place.FixPlace.{FixPlace}
+use Rattle.facts.specs.Order.{is_same}
+use Rattle.facts.specs.Conclusions.{bnd_of, given_if}
 use Rattle.theorem_arith.specs.Shapes.{is_one}
-use Rattle.rounding.specs.interval.Outward.{outward_of}
 use Rattle.theorem_fix.specs.Roundings.{rounded_end}
 
 -- the lower end rounded up to a multiple of 2^k, the upper one down; infinite ends stay

@@ -3,27 +3,26 @@
 use Rattle.std.specs.Prelude.{◌≡◌, ◌≤ℤ◌, ℤ, pos, negsuc, Some, None}
 use Rattle.std.proofs.Common.{sym, ap, subst, ◌∙◌, arith}
 use Rattle.std.proofs.lemmas.Int.{ints, by_lt_z}
-use Rattle.rounding.specs.fx_model.Fraction.{Fraction, le_trans}
-use Rattle.rounding.specs.fx_model.Powers.{IsMultiple}
-use Rattle.rounding.specs.fx_model.Grid.{Bound, Below, At, Above, IsOnGrid}
-use Rattle.rounding.specs.fx_model.Enclosure.{Range, IsFrom, IsUpTo, Lies, BoundLe, Within}
-use Rattle.rounding.specs.fx_model.Enclosure.{IsOrdered}
-use Rattle.rounding.specs.fx_model.Rounded.{rounded}
-use Rattle.rounding.specs.fx_model.declared.Rounding.{Rounding}
-use Rattle.rounding.specs.fx_model.declared.Direction.{Direction}
-use Rattle.rounding.specs.fx_model.declared.Direction.TheVariants.{Dn, Up}
-use Rattle.rounding.specs.dyadic.Ends.{bound_of}
-use Rattle.rounding.specs.dyadic.Made.{IsGridBound, grid_bound}
-use Rattle.rounding.specs.interval.declared.interval.Interval.{Interval}
-use Rattle.rounding.specs.interval.Intervals.{range_of}
-use Rattle.rounding.specs.interval.Meets.{interval_from-none, interval_from_out}
+use Rattle.fx_model.specs.Fraction.{Fraction, le_trans}
+use Rattle.fx_model.specs.Powers.{IsMultiple}
+use Rattle.fx_model.specs.Grid.{Bound, Below, At, Above, IsOnGrid}
+use Rattle.fx_model.specs.Enclosure.{Range, IsFrom, IsUpTo, Lies, BoundLe, Within, IsOrdered}
+use Rattle.fx_model.specs.Rounded.{rounded}
+use Rattle.fx_model.specs.declared.Rounding.{Rounding}
+use Rattle.fx_model.specs.declared.Direction.{Direction}
+use Rattle.fx_model.specs.declared.Direction.TheVariants.{Dn, Up}
+use Rattle.dyadic.specs.Ends.{bound_of}
+use Rattle.dyadic.specs.Made.{IsGridBound, grid_bound}
+use Rattle.interval.specs.declared.interval.Interval.{Interval}
+use Rattle.interval.specs.Intervals.{range_of}
+use Rattle.interval.specs.Meets.{interval_from-none, interval_from_out}
+use Rattle.interval.specs.Outward.{outward_of-some, low_end, high_end, low_bound_self}
+use Rattle.interval.specs.Outward.{high_bound_self}
 use Rattle.rounding.specs.Rounded.{rounded_multiple, rounded-finer, multiple_of_less}
 use Rattle.rounding.specs.OnGrid.{rounded_on_grid}
-use Rattle.theorem_arith.specs.facts.declared.place.FixPlace.{FixPlace}
-use Rattle.theorem_arith.specs.facts.Order.{IsWithin}
+use Rattle.facts.specs.declared.place.FixPlace.{FixPlace}
+use Rattle.facts.specs.Order.{IsWithin}
 use Rattle.theorem_fix.specs.Beside.{rounded_below, rounded_above, multiple_below, multiple_above}
-use Rattle.rounding.specs.interval.Outward.{outward_of-some, low_end, high_end, low_bound_self}
-use Rattle.rounding.specs.interval.Outward.{high_bound_self}
 use Rattle.theorem_fix.specs.Roundings.{rounded_end}
 use Rattle.theorem_fix.specs.Shrunk.{shrunk_range, shrunk_of}
 

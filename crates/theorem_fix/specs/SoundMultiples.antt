@@ -6,42 +6,39 @@ use Rattle.std.specs.Option.{IsSomeAnd}
 use Rattle.std.proofs.Common.{sym, ap, subst, ◌∙◌, ⊎_elim, arith}
 use Rattle.std.proofs.lemmas.Int.{ints}
 use Rattle.std.proofs.lemmas.Bool.{eqb-true, or_cases}
-use Rattle.rounding.specs.fx_model.Fraction.{Fraction, ◌+ℚ◌, ◌-ℚ◌, ◌*ℚ◌, ◌≤ℚ◌, neg_ℚ, le_antisymm}
-use Rattle.rounding.specs.fx_model.Fraction.{le_trans}
-use Rattle.rounding.specs.fx_model.Powers.{IsMultiple, scaled, scaled-zero}
-use Rattle.rounding.specs.fx_model.Powers.{scaled-add}
-use Rattle.rounding.specs.fx_model.Grid.{scaled-mul, multiple-neg}
-use Rattle.rounding.specs.fx_model.Enclosure.{Lies}
-use Rattle.rounding.specs.fx_model.Expression.{Assignment, IsOrdered, value, lift₁, literal_value}
-use Rattle.rounding.specs.fx_model.Rounded.{rounded}
-use Rattle.rounding.specs.fx_model.declared.ExprId.{ExprId}
-use Rattle.rounding.specs.fx_model.declared.Rounding.{Rounding}
-use Rattle.rounding.specs.fx_model.declared.Node.{Node}
-use Rattle.rounding.specs.fx_model.declared.Node.TheVariants as node
-use Rattle.rounding.specs.dyadic.declared.number.Dyadic.{Dyadic}
-use Rattle.rounding.specs.dyadic.declared.number.End.{End}
-use Rattle.rounding.specs.dyadic.declared.number.End.TheVariants as end
-use Rattle.rounding.specs.dyadic.Values.{value_of}
-use Rattle.rounding.specs.dyadic.Ends.{bound_of}
-use Rattle.rounding.specs.dyadic.Order.{le_bound}
-use Rattle.rounding.specs.dyadic.Compared.{BoundLe_in}
-use Rattle.rounding.specs.interval.Intervals.{range_of}
-use Rattle.theorem_arith.specs.expr_dag.Shapes.{is_at, node_at-value}
-use Rattle.theorem_arith.specs.facts.declared.place.FixPlace.{FixPlace}
-use Rattle.theorem_arith.specs.facts.declared.fact.Fact.{Fact}
-use Rattle.theorem_arith.specs.facts.declared.fact.Fact.TheVariants as fact
-use Rattle.theorem_arith.specs.facts.declared.fact.Slot.TheVariants as slot
-use Rattle.theorem_arith.specs.facts.Holds.{Holds}
-use Rattle.theorem_arith.specs.facts.CommonParts.{if-some, expr_same}
-use Rattle.theorem_arith.specs.facts.Held.{multiple-lower, some-and}
-use Rattle.theorem_arith.specs.facts.Order.{is_same}
-use Rattle.theorem_arith.specs.facts.Promises.{IsSound}
+use Rattle.fx_model.specs.Fraction.{Fraction, ◌+ℚ◌, ◌-ℚ◌, ◌*ℚ◌, ◌≤ℚ◌, neg_ℚ, le_antisymm, le_trans}
+use Rattle.fx_model.specs.Powers.{IsMultiple, scaled, scaled-zero, scaled-add}
+use Rattle.fx_model.specs.Grid.{scaled-mul, multiple-neg, le_bound}
+use Rattle.fx_model.specs.Enclosure.{Lies}
+use Rattle.fx_model.specs.Expression.{Assignment, IsOrdered, value, lift₁, literal_value}
+use Rattle.fx_model.specs.Rounded.{rounded}
+use Rattle.fx_model.specs.declared.ExprId.{ExprId}
+use Rattle.fx_model.specs.declared.Rounding.{Rounding}
+use Rattle.fx_model.specs.declared.Node.{Node}
+use Rattle.fx_model.specs.declared.Node.TheVariants as node
+use Rattle.dyadic.specs.declared.number.Dyadic.{Dyadic}
+use Rattle.dyadic.specs.declared.number.End.{End}
+use Rattle.dyadic.specs.declared.number.End.TheVariants as end
+use Rattle.dyadic.specs.Values.{value_of}
+use Rattle.dyadic.specs.Ends.{bound_of}
+use Rattle.dyadic.specs.Compared.{BoundLe_in}
+use Rattle.interval.specs.Intervals.{range_of}
 use Rattle.rounding.specs.Rounded.{rounded_multiple, rounded-finer}
 use Rattle.rounding.specs.Places.{less, not_less}
-use Rattle.theorem_arith.specs.facts.Conclusions.{fix_of, given}
-use Rattle.theorem_arith.specs.expr_dag.Lifted.{at_node, lifted₁, lifted₂}
+use Rattle.expr_dag.specs.Shapes.{is_at, node_at-value}
+use Rattle.expr_dag.specs.Lifted.{at_node, lifted₁, lifted₂}
+use Rattle.facts.specs.declared.place.FixPlace.{FixPlace}
+use Rattle.facts.specs.declared.fact.Fact.{Fact}
+use Rattle.facts.specs.declared.fact.Fact.TheVariants as fact
+use Rattle.facts.specs.declared.fact.Slot.TheVariants as slot
+use Rattle.facts.specs.Holds.{Holds}
+use Rattle.facts.specs.CommonParts.{if-some, expr_same}
+use Rattle.facts.specs.Held.{multiple-lower, some-and}
+use Rattle.facts.specs.Order.{is_same}
+use Rattle.facts.specs.Promises.{IsSound}
+use Rattle.facts.specs.Conclusions.{fix_of, given}
+use Rattle.facts.specs.Places.{place_from_out, kept, sum_place, lesser_place}
 use Rattle.theorem_arith.specs.Shapes.{is_one, one_same}
-use Rattle.theorem_arith.specs.facts.Places.{place_from_out, kept, sum_place, lesser_place}
 use Rattle.theorem_fix.specs.Greatest.{greatest_place_out}
 use Rattle.theorem_fix.specs.Shapes.{rounding_of, rounding_at}
 use Rattle.theorem_fix.specs.Multiples.{literal_place, literal_multiple_rule}

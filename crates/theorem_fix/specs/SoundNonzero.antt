@@ -4,34 +4,33 @@ use Rattle.std.specs.Prelude.{Option, Some, None}
 use Rattle.std.specs.Option.{IsSomeAnd}
 use Rattle.std.proofs.Common.{sym, ap, subst, ◌∙◌, inl, inr, ⊎_elim}
 use Rattle.std.proofs.lemmas.Bool.{and_parts, or_cases}
-use Rattle.rounding.specs.fx_model.Fraction.{Fraction, ◌*ℚ◌, ◌/ℚ◌, neg_ℚ, abs_ℚ, zero_ℚ, one_ℚ}
-use Rattle.rounding.specs.fx_model.Fraction.{inverse_ℚ, abs-from, le_refl, lt_not, mul_comm}
-use Rattle.rounding.specs.fx_model.Fraction.{mul_assoc, mul-inverse, one-mul, zero-mul, zero-add}
-use Rattle.rounding.specs.fx_model.Fraction.{neg-neg, add-neg, div-mul}
-use Rattle.rounding.specs.fx_model.Grid.{Bound, Below, At, Above}
-use Rattle.rounding.specs.fx_model.Enclosure.{IsFrom, Lies}
-use Rattle.rounding.specs.fx_model.Expression.{Assignment, value}
-use Rattle.rounding.specs.fx_model.declared.ExprId.{ExprId}
-use Rattle.rounding.specs.fx_model.declared.Node.{Node}
-use Rattle.rounding.specs.fx_model.declared.Node.TheVariants as node
-use Rattle.rounding.specs.interval.Intervals.{range_of}
-use Rattle.rounding.specs.interval.Results.{has_zero}
-use Rattle.theorem_arith.specs.expr_dag.Shapes.{is_at, are_known}
-use Rattle.theorem_arith.specs.facts.declared.relative.RelativeError.{RelativeError}
-use Rattle.theorem_arith.specs.facts.declared.fact.Fact.{Fact}
-use Rattle.theorem_arith.specs.facts.declared.fact.Fact.TheVariants as fact
-use Rattle.theorem_arith.specs.facts.declared.fact.Slot.TheVariants as slot
-use Rattle.theorem_arith.specs.facts.Holds.{AreZero, IsRelated, Holds}
-use Rattle.theorem_arith.specs.facts.CommonParts.{if-some, expr_same}
-use Rattle.theorem_arith.specs.facts.Held.{some-and}
-use Rattle.theorem_arith.specs.facts.Order.{is_same}
-use Rattle.theorem_arith.specs.facts.Ranges.{IsBelow, is_below, is_below_in}
-use Rattle.theorem_arith.specs.facts.Promises.{IsSound}
-use Rattle.theorem_arith.specs.facts.Conclusions.{given}
-use Rattle.theorem_arith.specs.facts.RelativeConclusions.{void_only}
-use Rattle.theorem_arith.specs.facts.RelatedZeros.{first_nonzero, second_nonzero}
-use Rattle.rounding.specs.interval.Members.{zero_test}
-use Rattle.theorem_arith.specs.expr_dag.Lifted.{at_node, lifted_quotient, lifted₁, lifted₂}
+use Rattle.fx_model.specs.Fraction.{Fraction, ◌*ℚ◌, ◌/ℚ◌, neg_ℚ, abs_ℚ, zero_ℚ, one_ℚ, inverse_ℚ}
+use Rattle.fx_model.specs.Fraction.{abs-from, le_refl, lt_not, mul_comm, mul_assoc, mul-inverse}
+use Rattle.fx_model.specs.Fraction.{one-mul, zero-mul, zero-add, neg-neg, add-neg, div-mul}
+use Rattle.fx_model.specs.Grid.{Bound, Below, At, Above}
+use Rattle.fx_model.specs.Enclosure.{IsFrom, Lies}
+use Rattle.fx_model.specs.Expression.{Assignment, value}
+use Rattle.fx_model.specs.declared.ExprId.{ExprId}
+use Rattle.fx_model.specs.declared.Node.{Node}
+use Rattle.fx_model.specs.declared.Node.TheVariants as node
+use Rattle.interval.specs.Intervals.{range_of}
+use Rattle.interval.specs.Results.{has_zero}
+use Rattle.interval.specs.Members.{zero_test}
+use Rattle.expr_dag.specs.Shapes.{is_at, are_known}
+use Rattle.expr_dag.specs.Lifted.{at_node, lifted_quotient, lifted₁, lifted₂}
+use Rattle.facts.specs.declared.relative.RelativeError.{RelativeError}
+use Rattle.facts.specs.declared.fact.Fact.{Fact}
+use Rattle.facts.specs.declared.fact.Fact.TheVariants as fact
+use Rattle.facts.specs.declared.fact.Slot.TheVariants as slot
+use Rattle.facts.specs.Holds.{AreZero, IsRelated, Holds}
+use Rattle.facts.specs.CommonParts.{if-some, expr_same}
+use Rattle.facts.specs.Held.{some-and}
+use Rattle.facts.specs.Order.{is_same}
+use Rattle.facts.specs.Ranges.{IsBelow, is_below, is_below_in}
+use Rattle.facts.specs.Promises.{IsSound}
+use Rattle.facts.specs.Conclusions.{given}
+use Rattle.facts.specs.RelativeConclusions.{void_only}
+use Rattle.facts.specs.RelatedZeros.{first_nonzero, second_nonzero}
 use Rattle.theorem_arith.specs.Shapes.{is_one, one_same}
 use Rattle.theorem_fix.specs.Nonzero.{nonzero_bound_rule, nonzero_size_rule, nonzero_product_rule}
 use Rattle.theorem_fix.specs.Nonzero.{nonzero_quotient_rule, nonzero_negation_rule, are_sides}

@@ -3,42 +3,41 @@ use Rattle.std.specs.Prelude.{◌≡◌, ℤ, List, [], ◌∷◌, Bool, true, f
 use Rattle.std.specs.Prelude.{slice_get, refl}
 use Rattle.std.specs.Option.{IsSomeAnd}
 use Rattle.std.proofs.Common.{sym, ap, subst, ◌∙◌}
-use Rattle.rounding.specs.fx_model.Fraction.{Fraction, ◌-ℚ◌, ◌≤ℚ◌, zero_ℚ, le_trans, le_antisymm}
-use Rattle.rounding.specs.fx_model.Powers.{IsMultiple}
-use Rattle.rounding.specs.fx_model.Grid.{Bound, Below, At, Above}
-use Rattle.rounding.specs.fx_model.Enclosure.{Range, IsFrom, IsUpTo, Lies}
-use Rattle.rounding.specs.fx_model.Expression.{Assignment, IsOrdered, value, lift₁, lift₂}
-use Rattle.rounding.specs.fx_model.Rounded.{rounded}
-use Rattle.rounding.specs.fx_model.declared.ExprId.{ExprId}
-use Rattle.rounding.specs.fx_model.declared.Rounding.{Rounding}
-use Rattle.rounding.specs.fx_model.declared.Node.{Node}
-use Rattle.rounding.specs.fx_model.declared.Node.TheVariants as node
-use Rattle.rounding.specs.dyadic.Order.{le_bound}
-use Rattle.rounding.specs.dyadic.Compared.{BoundLe_in}
-use Rattle.rounding.specs.interval.declared.interval.Interval.{Interval}
-use Rattle.rounding.specs.interval.Intervals.{range_of}
-use Rattle.theorem_arith.specs.expr_dag.Shapes.{node_at-value}
-use Rattle.theorem_arith.specs.expr_dag.Lifted.{lifted₁}
+use Rattle.fx_model.specs.Fraction.{Fraction, ◌-ℚ◌, ◌≤ℚ◌, zero_ℚ, le_trans, le_antisymm}
+use Rattle.fx_model.specs.Powers.{IsMultiple}
+use Rattle.fx_model.specs.Grid.{Bound, Below, At, Above, le_bound}
+use Rattle.fx_model.specs.Enclosure.{Range, IsFrom, IsUpTo, Lies}
+use Rattle.fx_model.specs.Expression.{Assignment, IsOrdered, value, lift₁, lift₂}
+use Rattle.fx_model.specs.Rounded.{rounded}
+use Rattle.fx_model.specs.declared.ExprId.{ExprId}
+use Rattle.fx_model.specs.declared.Rounding.{Rounding}
+use Rattle.fx_model.specs.declared.Node.{Node}
+use Rattle.fx_model.specs.declared.Node.TheVariants as node
+use Rattle.dyadic.specs.Compared.{BoundLe_in}
+use Rattle.interval.specs.declared.interval.Interval.{Interval}
+use Rattle.interval.specs.Intervals.{range_of}
+use Rattle.interval.specs.Outward.{outward_of_lies}
 use Rattle.rounding.specs.declared.sign.Sign.{Sign}
 use Rattle.rounding.specs.declared.sign.Sign.TheVariants.{Unknown, NotNegative, NotPositive, Zero}
 use Rattle.rounding.specs.Rounded.{rounded-le}
 use Rattle.rounding.specs.Errors.{HasSign, HasPlace, error_range}
 use Rattle.rounding.specs.ErrorLaws.{error_lies}
-use Rattle.theorem_arith.specs.facts.declared.fact.Fact.TheVariants as fact
-use Rattle.theorem_arith.specs.facts.declared.fact.Slot.TheVariants as slot
-use Rattle.theorem_arith.specs.facts.Held.{some-and}
-use Rattle.theorem_arith.specs.facts.CommonParts.{if-some, expr_same}
-use Rattle.theorem_arith.specs.facts.Order.{is_same}
-use Rattle.theorem_arith.specs.facts.Promises.{IsSound}
-use Rattle.theorem_arith.specs.facts.Conclusions.{given}
-use Rattle.rounding.specs.interval.Outward.{outward_of_lies}
+use Rattle.expr_dag.specs.Shapes.{node_at-value}
+use Rattle.expr_dag.specs.Lifted.{lifted₁}
+use Rattle.facts.specs.declared.fact.Fact.TheVariants as fact
+use Rattle.facts.specs.declared.fact.Slot.TheVariants as slot
+use Rattle.facts.specs.Held.{some-and}
+use Rattle.facts.specs.CommonParts.{if-some, expr_same}
+use Rattle.facts.specs.Order.{is_same}
+use Rattle.facts.specs.Promises.{IsSound}
+use Rattle.facts.specs.Conclusions.{given}
+use Rattle.theorem_arith.specs.Sound.{bnd_given}
 use Rattle.theorem_fix.specs.Shapes.{rounding_at, error_rounding_of, error_rounding_at}
 use Rattle.theorem_fix.specs.SoundMultiples.{at_rounding, rounding_of_out}
 use Rattle.theorem_fix.specs.Roundings.{rounded_end, rounded_range, rounded_interval}
 use Rattle.theorem_fix.specs.Roundings.{rounded_bound_rule, errors_of, error_rule, sign_by, sign_of}
 use Rattle.theorem_fix.specs.Roundings.{is_sided, sided, signed_errors_of, signed_error_rule}
 use Rattle.theorem_fix.specs.Roundings.{multiple_error_rule}
-use Rattle.theorem_arith.specs.Sound.{bnd_given}
 
 -- ---- rounded values
 rounded_from : (r : Rounding) (b : Bound) (x : Fraction) → IsFrom b x

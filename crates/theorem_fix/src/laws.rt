@@ -1,5 +1,5 @@
 // What the rules promise, for callers to cite. Nothing here is done at run time.
-ghost use Rattle.theorem_arith.specs.facts.Promises.{IsSound, IsIsotone, IsOnTarget};
+ghost use Rattle.facts.specs.Promises.{IsSound, IsIsotone, IsOnTarget};
 ghost use Rattle.theorem_fix.specs.EachRule.{EachRule, IsIsotoneOrVoid};
 ghost use Rattle.theorem_fix.specs.Shrunk.{shrinking_rule, no_multiple_rule};
 

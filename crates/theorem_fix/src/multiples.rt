@@ -1,7 +1,7 @@
 // Multiples of powers of two.
 ghost use Rattle.std.specs.Prelude.{◌≡◌, slice_get};
-ghost use Rattle.rounding.specs.fx_model.Expression.{literal_value};
-ghost use Rattle.rounding.specs.literal.Normal.{IsNormal};
+ghost use Rattle.fx_model.specs.Expression.{literal_value};
+ghost use Rattle.literal.specs.Normal.{IsNormal};
 ghost use Rattle.theorem_fix.specs.Greatest.{greatest_place};
 ghost use Rattle.theorem_fix.specs.Multiples.{literal_place, literal_multiple_rule};
 ghost use Rattle.theorem_fix.specs.Multiples.{multiple_of_negation_rule, multiple_of_sum_rule};
@@ -12,8 +12,11 @@ ghost use Rattle.theorem_fix.specs.Multiples.{number_multiple_rule};
 
 use crate::places::{keep, lesser, product_place};
 use crate::shape::rounding;
-use rounding::{Dyadic, End, fix_of};
-use theorem_arith::{Dag, ExprId, Fact, FixPlace, Literal, Node, Rounding, Slot};
+use dyadic::{Dyadic, End};
+use literal::fix_of;
+use expr_dag::Dag;
+use fx_model::{ExprId, Literal, Node, Rounding};
+use facts::{Fact, FixPlace, Slot};
 
 /// For a literal c: FIX(c, k), where k is the greatest of which it is a multiple.
 #[inline(always)]

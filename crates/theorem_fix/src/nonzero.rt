@@ -1,15 +1,17 @@
 // Values other than 0.
 ghost use Rattle.std.specs.Prelude.{◌≡◌};
-ghost use Rattle.rounding.specs.fx_model.Fraction.{zero_ℚ};
-ghost use Rattle.rounding.specs.interval.Intervals.{range_of};
-ghost use Rattle.theorem_arith.specs.facts.Ranges.{is_below};
+ghost use Rattle.fx_model.specs.Fraction.{zero_ℚ};
+ghost use Rattle.interval.specs.Intervals.{range_of};
+ghost use Rattle.facts.specs.Ranges.{is_below};
 ghost use Rattle.theorem_fix.specs.Nonzero.{nonzero_bound_rule, nonzero_size_rule};
 ghost use Rattle.theorem_fix.specs.Nonzero.{nonzero_product_rule, nonzero_quotient_rule};
 ghost use Rattle.theorem_fix.specs.Nonzero.{nonzero_negation_rule, are_sides, nonzero_or_void};
 ghost use Rattle.theorem_fix.specs.Nonzero.{nonzero_side_rule};
 
-use rounding::Interval;
-use theorem_arith::{Dag, ExprId, Fact, Node, RelativeError, Slot};
+use interval::Interval;
+use expr_dag::Dag;
+use fx_model::{ExprId, Node};
+use facts::{Fact, RelativeError, Slot};
 
 /// From BND(x, I), where 0 isn't in I: NZR(x) (Gappa: `nzr_of_bnd`).
 #[inline(always)]

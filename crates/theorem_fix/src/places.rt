@@ -1,8 +1,8 @@
 // Exponents of multiples.
 ghost use Rattle.std.specs.Prelude.{◌≡◌, ◌≤ℤ◌, pos, negsuc};
-ghost use Rattle.theorem_arith.specs.facts.Places.{kept, sum_place, lesser_place};
+ghost use Rattle.facts.specs.Places.{kept, sum_place, lesser_place};
 
-use theorem_arith::FixPlace;
+use facts::FixPlace;
 
 /// The place with this exponent, lowered to 512 where it is above; `None` below -1024.
 pub fn keep(exponent: i32) -> Option<FixPlace>

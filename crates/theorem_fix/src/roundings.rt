@@ -1,7 +1,7 @@
 // Roundings and their errors.
 ghost use Rattle.std.specs.Prelude.{◌≡◌, ◌≤ℤ◌, pos, negsuc};
-ghost use Rattle.rounding.specs.dyadic.Ends.{bound_of};
-ghost use Rattle.rounding.specs.interval.Intervals.{range_of};
+ghost use Rattle.dyadic.specs.Ends.{bound_of};
+ghost use Rattle.interval.specs.Intervals.{range_of};
 ghost use Rattle.theorem_fix.specs.Shapes.{IsInLimits};
 ghost use Rattle.theorem_fix.specs.Roundings.{rounded_end, rounded_interval, rounded_bound_rule};
 ghost use Rattle.theorem_fix.specs.Roundings.{errors_of, error_rule, sign_of, is_sided};
@@ -9,8 +9,12 @@ ghost use Rattle.theorem_fix.specs.Roundings.{signed_errors_of, signed_error_rul
 ghost use Rattle.theorem_fix.specs.Roundings.{multiple_error_rule};
 
 use crate::shape::{error_rounding, rounding};
-use rounding::{End, Interval, Sign, error_interval, round_grid};
-use theorem_arith::{Dag, Direction, Fact, Rounding, Slot};
+use dyadic::End;
+use interval::Interval;
+use rounding::{Sign, error_interval, round_grid};
+use expr_dag::Dag;
+use fx_model::{Direction, Rounding};
+use facts::{Fact, Slot};
 
 /// From BND(x, [p, q]): BND(R(x), [R(p), R(q)]); infinite ends stay.
 #[inline(always)]

@@ -2,7 +2,8 @@
 ghost use Rattle.std.specs.Prelude.{◌≡◌};
 ghost use Rattle.theorem_fix.specs.Shapes.{IsInLimits, rounding_at, error_rounding_at};
 
-use theorem_arith::{Dag, ExprId, Node, Rounding};
+use expr_dag::Dag;
+use fx_model::{ExprId, Node, Rounding};
 
 /// The rounding R, where `e` is R(x); `None` where it is anything else.
 pub fn rounding(dag: &Dag, e: ExprId, x: ExprId) -> Option<Rounding>

@@ -3,17 +3,18 @@
 use Rattle.std.specs.Prelude.{◌≡◌, ◌&&◌, Bool, true, false, [], ◌∷◌, Option, Some, None, slice_get}
 use Rattle.std.specs.Prelude.{refl}
 use Rattle.std.proofs.Common.{sym, ap, subst, ◌∙◌}
-use Rattle.expr_dag.specs.fx_model.Fraction.{Fraction, ◌+ℚ◌, ◌-ℚ◌, ◌*ℚ◌, zero_ℚ, one_ℚ, zero-add}
-use Rattle.expr_dag.specs.fx_model.Fraction.{add-neg}
-use Rattle.expr_dag.specs.fx_model.Enclosure.{Lies}
-use Rattle.expr_dag.specs.fx_model.declared.ExprId.{ExprId}
-use Rattle.expr_dag.specs.fx_model.declared.Node.TheVariants as node
-use Rattle.facts.specs.grid_words.Signs.{neg_zero}
-use Rattle.facts.specs.interval.declared.interval.Interval.{Interval}
-use Rattle.facts.specs.interval.Intervals.{range_of}
-use Rattle.facts.specs.interval.Results.{sum_of, difference_of, product_of, quotient_of, has_zero}
-use Rattle.facts.specs.interval.Monotone.{sum_of-within, difference_of-within, product_of-within}
-use Rattle.facts.specs.interval.Monotone.{quotient_of-within}
+use Rattle.fx_model.specs.Fraction.{Fraction, ◌+ℚ◌, ◌-ℚ◌, ◌*ℚ◌, zero_ℚ, one_ℚ, zero-add, add-neg}
+use Rattle.fx_model.specs.Fraction.{neg_zero, add-zero, mul-one, mul-zero}
+use Rattle.fx_model.specs.Enclosure.{Lies}
+use Rattle.fx_model.specs.declared.ExprId.{ExprId}
+use Rattle.fx_model.specs.declared.Node.TheVariants as node
+use Rattle.interval.specs.declared.interval.Interval.{Interval}
+use Rattle.interval.specs.Intervals.{range_of}
+use Rattle.interval.specs.Results.{sum_of, difference_of, product_of, quotient_of, has_zero}
+use Rattle.interval.specs.Monotone.{sum_of-within, difference_of-within, product_of-within}
+use Rattle.interval.specs.Monotone.{quotient_of-within}
+use Rattle.interval.specs.Members.{zero_test, zero_found, grown, some_member, within_by_members}
+use Rattle.interval.specs.Members.{has_one, one_test, one_found}
 use Rattle.expr_dag.specs.Shapes.{is_at, are_known}
 use Rattle.facts.specs.declared.relative.RelativeError.{RelativeError}
 use Rattle.facts.specs.declared.fact.Fact.{Fact}
@@ -26,21 +27,17 @@ use Rattle.facts.specs.Laws.{IsStronger-refl, IsWithin-refl}
 use Rattle.facts.specs.Promises.{IsIsotone}
 use Rattle.facts.specs.Premises.{Gives}
 use Rattle.facts.specs.Conclusions.{Improves, improves_given, improves_only}
-use Rattle.facts.specs.RelativeConclusions.{rel_of, void_only}
+use Rattle.facts.specs.RelativeConclusions.{rel_of, void_only, improves_error, improves_part}
+use Rattle.facts.specs.RelativeConclusions.{improves_void, improves_fact, improves_to_none}
+use Rattle.facts.specs.RelativeConclusions.{improves_to, improves_void_only}
+use Rattle.facts.specs.RelativePremises.{one_rel, two_rel, two_rel_then_nzr, two_rel_then_bnd}
 use Rattle.theorem_rel.specs.Values.{unit}
 use Rattle.theorem_rel.specs.Operations.{joint, joint_fact, relative_product_rule}
 use Rattle.theorem_rel.specs.Operations.{relative_chain_rule, less_one, over_one, ratio_fact}
 use Rattle.theorem_rel.specs.Operations.{relative_quotient_rule, turned_fact, relative_turned_rule}
 use Rattle.theorem_rel.specs.Operations.{relative_negation_rule, weighted, rel_or_void, sum_fact}
 use Rattle.theorem_rel.specs.Operations.{is_share, relative_sum_rule}
-use Rattle.facts.specs.grid_words.FractionLaws.{add-zero, mul-one, mul-zero}
-use Rattle.facts.specs.interval.Members.{zero_test, zero_found, grown, some_member}
-use Rattle.facts.specs.interval.Members.{within_by_members, has_one, one_test, one_found}
 use Rattle.theorem_rel.specs.Members.{weighted_lies}
-use Rattle.facts.specs.RelativePremises.{one_rel, two_rel, two_rel_then_nzr, two_rel_then_bnd}
-use Rattle.facts.specs.RelativeConclusions.{improves_error, improves_part, improves_void}
-use Rattle.facts.specs.RelativeConclusions.{improves_fact, improves_to_none, improves_to}
-use Rattle.facts.specs.RelativeConclusions.{improves_void_only}
 
 -- ---- products and chains
 joint-within : (i k j l : Interval) → IsWithin i j → IsWithin k l → IsWithin (joint i k) (joint j l)

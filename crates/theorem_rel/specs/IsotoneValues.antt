@@ -3,15 +3,16 @@
 use Rattle.std.specs.Prelude.{◌≡◌, ◌&&◌, Bool, true, false, [], ◌∷◌, Option, Some, None}
 use Rattle.std.specs.Prelude.{if◌then◌else◌, refl}
 use Rattle.std.proofs.Common.{sym, subst}
-use Rattle.expr_dag.specs.fx_model.Fraction.{zero_ℚ, zero-mul}
-use Rattle.expr_dag.specs.fx_model.Enclosure.{Lies, product_holds}
-use Rattle.expr_dag.specs.fx_model.declared.ExprId.{ExprId}
-use Rattle.expr_dag.specs.fx_model.declared.Node.TheVariants as node
-use Rattle.facts.specs.interval.declared.interval.Interval.{Interval}
-use Rattle.facts.specs.interval.Intervals.{range_of}
-use Rattle.facts.specs.interval.Results.{sum_of, product_of, product_of-is, quotient_of, point_of}
-use Rattle.facts.specs.interval.Results.{has_zero}
-use Rattle.facts.specs.interval.Monotone.{sum_of-within, product_of-within, quotient_of-within}
+use Rattle.fx_model.specs.Fraction.{zero_ℚ, zero-mul}
+use Rattle.fx_model.specs.Enclosure.{Lies, product_holds}
+use Rattle.fx_model.specs.declared.ExprId.{ExprId}
+use Rattle.fx_model.specs.declared.Node.TheVariants as node
+use Rattle.interval.specs.declared.interval.Interval.{Interval}
+use Rattle.interval.specs.Intervals.{range_of}
+use Rattle.interval.specs.Results.{sum_of, product_of, product_of-is, quotient_of, point_of}
+use Rattle.interval.specs.Results.{has_zero}
+use Rattle.interval.specs.Monotone.{sum_of-within, product_of-within, quotient_of-within}
+use Rattle.interval.specs.Members.{zero_test, zero_found, grown, some_member, alone_within}
 use Rattle.expr_dag.specs.Shapes.{is_at, are_known}
 use Rattle.facts.specs.declared.relative.RelativeError.{RelativeError}
 use Rattle.facts.specs.declared.fact.Fact.{Fact}
@@ -23,14 +24,13 @@ use Rattle.facts.specs.Laws.{IsStronger-refl, IsWithin-refl}
 use Rattle.facts.specs.Promises.{IsIsotone}
 use Rattle.facts.specs.Premises.{Gives, one_bnd, two_bnd}
 use Rattle.facts.specs.Conclusions.{improves_given, improves_only}
-use Rattle.facts.specs.RelativeConclusions.{rel_of, void_only}
+use Rattle.facts.specs.RelativeConclusions.{rel_of, void_only, improves_fact, improves_part}
+use Rattle.facts.specs.RelativeConclusions.{improves_void_only}
+use Rattle.facts.specs.RelativePremises.{rel_then_bnd, rel_then_nzr}
 use Rattle.theorem_rel.specs.Values.{unit, relative_to_itself_rule, relative_difference_rule}
 use Rattle.theorem_rel.specs.Values.{zero_or_void, difference_fact, difference_by_error_rule}
 use Rattle.theorem_rel.specs.Values.{value_fact, value_by_error_rule, quotient_fact}
 use Rattle.theorem_rel.specs.Values.{quotient_by_error_rule}
-use Rattle.facts.specs.interval.Members.{zero_test, zero_found, grown, some_member, alone_within}
-use Rattle.facts.specs.RelativePremises.{rel_then_bnd, rel_then_nzr}
-use Rattle.facts.specs.RelativeConclusions.{improves_fact, improves_part, improves_void_only}
 
 pub relative_to_itself_rule-isotone : IsIsotone relative_to_itself_rule
 relative_to_itself_rule-isotone nodes (fact.Bnd x i ∷ []) (slot.Rel y z) ps c s q =

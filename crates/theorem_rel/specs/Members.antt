@@ -1,12 +1,12 @@
 -- What lies in the intervals that the rules build.
 use Rattle.std.specs.Prelude.{refl}
-use Rattle.expr_dag.specs.fx_model.Fraction.{Fraction, ◌+ℚ◌, ◌-ℚ◌, ◌*ℚ◌, one_ℚ}
-use Rattle.expr_dag.specs.fx_model.Enclosure.{Lies, Sums, Differences, in_enclosure, product_holds}
-use Rattle.facts.specs.interval.declared.interval.Interval.{Interval}
-use Rattle.facts.specs.interval.Intervals.{range_of}
-use Rattle.facts.specs.interval.Members.{alone_lies}
-use Rattle.facts.specs.interval.Results.{sum_of, sum_of-is, difference_of, difference_of-is}
-use Rattle.facts.specs.interval.Results.{product_of, product_of-is}
+use Rattle.fx_model.specs.Fraction.{Fraction, ◌+ℚ◌, ◌-ℚ◌, ◌*ℚ◌, one_ℚ}
+use Rattle.fx_model.specs.Enclosure.{Lies, Sums, Differences, in_enclosure, product_holds}
+use Rattle.interval.specs.declared.interval.Interval.{Interval}
+use Rattle.interval.specs.Intervals.{range_of}
+use Rattle.interval.specs.Members.{alone_lies}
+use Rattle.interval.specs.Results.{sum_of, sum_of-is, difference_of, difference_of-is, product_of}
+use Rattle.interval.specs.Results.{product_of-is}
 use Rattle.theorem_rel.specs.Values.{unit}
 use Rattle.theorem_rel.specs.Operations.{weighted}
 

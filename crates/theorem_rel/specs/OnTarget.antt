@@ -2,13 +2,13 @@
 use Rattle.std.specs.Prelude.{◌≡◌, ◌⊎◌, ◌&&◌, Bool, true, false, [], ◌∷◌, Option, Some, None}
 use Rattle.std.specs.Prelude.{if◌then◌else◌, slice_get, refl}
 use Rattle.std.proofs.Common.{inl, inr}
-use Rattle.expr_dag.specs.fx_model.Fraction.{zero_ℚ}
-use Rattle.expr_dag.specs.fx_model.declared.ExprId.{ExprId}
-use Rattle.expr_dag.specs.fx_model.declared.Node.TheVariants as node
-use Rattle.facts.specs.interval.declared.interval.Interval.{Interval}
-use Rattle.facts.specs.interval.Intervals.{range_of}
-use Rattle.facts.specs.interval.Results.{sum_of, quotient_of, point_of, has_zero}
-use Rattle.facts.specs.interval.Members.{has_one}
+use Rattle.fx_model.specs.Fraction.{zero_ℚ}
+use Rattle.fx_model.specs.declared.ExprId.{ExprId}
+use Rattle.fx_model.specs.declared.Node.TheVariants as node
+use Rattle.interval.specs.declared.interval.Interval.{Interval}
+use Rattle.interval.specs.Intervals.{range_of}
+use Rattle.interval.specs.Results.{sum_of, quotient_of, point_of, has_zero}
+use Rattle.interval.specs.Members.{has_one}
 use Rattle.expr_dag.specs.Shapes.{is_at, is_known, are_known}
 use Rattle.facts.specs.declared.relative.RelativeError.{RelativeError}
 use Rattle.facts.specs.declared.fact.Fact.{Fact}
@@ -19,7 +19,7 @@ use Rattle.facts.specs.Order.{slot_of, is_same}
 use Rattle.facts.specs.Parts.{error_from, error_of_part}
 use Rattle.facts.specs.Promises.{IsOnTarget}
 use Rattle.facts.specs.Conclusions.{StandsOn, fact_stands, given_stands, only_stands}
-use Rattle.facts.specs.RelativeConclusions.{rel_of, void_only}
+use Rattle.facts.specs.RelativeConclusions.{rel_of, void_only, rel_stands, void_only_stands}
 use Rattle.theorem_rel.specs.Values.{unit, relative_to_itself_rule, relative_difference_rule}
 use Rattle.theorem_rel.specs.Values.{zero_or_void, difference_fact, difference_by_error_rule}
 use Rattle.theorem_rel.specs.Values.{value_fact, value_by_error_rule, quotient_fact}
@@ -29,7 +29,6 @@ use Rattle.theorem_rel.specs.Operations.{relative_chain_rule, over_one, ratio_fa
 use Rattle.theorem_rel.specs.Operations.{relative_quotient_rule, turned_fact, relative_turned_rule}
 use Rattle.theorem_rel.specs.Operations.{relative_negation_rule, weighted, rel_or_void, sum_fact}
 use Rattle.theorem_rel.specs.Operations.{is_share, relative_sum_rule}
-use Rattle.facts.specs.RelativeConclusions.{rel_stands, void_only_stands}
 
 -- the fact stands on the slot, or is VOID
 abbrev Stands : Slot → Fact → Type 0

@@ -1,11 +1,11 @@
 -- Related values: x is y(1 + t) for a t in the interval.
 use Rattle.std.specs.Prelude.{◌≡◌, ◌≢◌, Bool, true, false, refl}
 use Rattle.std.proofs.Common.{sym, ap, subst, ◌∙◌, inl, inr, ⊎_elim}
-use Rattle.expr_dag.specs.fx_model.Fraction.{Fraction, ◌+ℚ◌, ◌-ℚ◌, ◌*ℚ◌, ◌/ℚ◌, zero_ℚ, one_ℚ}
-use Rattle.expr_dag.specs.fx_model.Fraction.{is_zero_ℚ, is_zero_out, is_zero_not, zero-mul}
-use Rattle.expr_dag.specs.fx_model.Enclosure.{Lies, member_of}
-use Rattle.facts.specs.interval.declared.interval.Interval.{Interval}
-use Rattle.facts.specs.interval.Intervals.{range_of}
+use Rattle.fx_model.specs.Fraction.{Fraction, ◌+ℚ◌, ◌-ℚ◌, ◌*ℚ◌, ◌/ℚ◌, zero_ℚ, one_ℚ, is_zero_ℚ}
+use Rattle.fx_model.specs.Fraction.{is_zero_out, is_zero_not, zero-mul}
+use Rattle.fx_model.specs.Enclosure.{Lies, member_of}
+use Rattle.interval.specs.declared.interval.Interval.{Interval}
+use Rattle.interval.specs.Intervals.{range_of}
 use Rattle.facts.specs.Holds.{AreZero, IsRelated}
 use Rattle.theorem_rel.specs.Numbers.{quotient_error, error_of_quotient}
 

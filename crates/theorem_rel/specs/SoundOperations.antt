@@ -4,22 +4,22 @@ use Rattle.std.specs.Prelude.{◌≡◌, ◌≢◌, ◌&&◌, Bool, true, List, 
 use Rattle.std.specs.Prelude.{slice_get, refl}
 use Rattle.std.proofs.Common.{sym, ap, subst, ◌∙◌, ⊎_elim}
 use Rattle.std.proofs.lemmas.Bool.{and_parts}
-use Rattle.expr_dag.specs.fx_model.Fraction.{Fraction, ◌+ℚ◌, ◌-ℚ◌, ◌*ℚ◌, ◌/ℚ◌, inverse_ℚ, neg_ℚ}
-use Rattle.expr_dag.specs.fx_model.Fraction.{zero_ℚ, one_ℚ, zero-add, zero-mul, neg-mul}
-use Rattle.expr_dag.specs.fx_model.Fraction.{mul-inverse}
-use Rattle.expr_dag.specs.fx_model.Enclosure.{Lies, Sums, Differences, in_enclosure, product_holds}
-use Rattle.expr_dag.specs.fx_model.Expression.{Assignment, IsOrdered, value, quotient}
-use Rattle.expr_dag.specs.fx_model.declared.ExprId.{ExprId}
-use Rattle.expr_dag.specs.fx_model.declared.Node.{Node}
-use Rattle.expr_dag.specs.fx_model.declared.Node.TheVariants as node
-use Rattle.facts.specs.grid_words.Signs.{neg_zero}
-use Rattle.facts.specs.grid_words.Products.{quotient_holds}
-use Rattle.facts.specs.interval.declared.interval.Interval.{Interval}
-use Rattle.facts.specs.interval.Intervals.{range_of}
-use Rattle.facts.specs.interval.Results.{sum_of, sum_of-is, difference_of, difference_of-is}
-use Rattle.facts.specs.interval.Results.{product_of, product_of-is, quotient_of, quotient_of-is}
-use Rattle.facts.specs.interval.Results.{has_zero}
+use Rattle.fx_model.specs.Fraction.{Fraction, ◌+ℚ◌, ◌-ℚ◌, ◌*ℚ◌, ◌/ℚ◌, inverse_ℚ, neg_ℚ, zero_ℚ}
+use Rattle.fx_model.specs.Fraction.{one_ℚ, zero-add, zero-mul, neg-mul, mul-inverse, neg_zero}
+use Rattle.fx_model.specs.Fraction.{add-zero, mul-zero}
+use Rattle.fx_model.specs.Enclosure.{Lies, Sums, Differences, in_enclosure, product_holds}
+use Rattle.fx_model.specs.Expression.{Assignment, IsOrdered, value, quotient}
+use Rattle.fx_model.specs.declared.ExprId.{ExprId}
+use Rattle.fx_model.specs.declared.Node.{Node}
+use Rattle.fx_model.specs.declared.Node.TheVariants as node
+use Rattle.grid_words.specs.Products.{quotient_holds}
+use Rattle.interval.specs.declared.interval.Interval.{Interval}
+use Rattle.interval.specs.Intervals.{range_of}
+use Rattle.interval.specs.Results.{sum_of, sum_of-is, difference_of, difference_of-is, product_of}
+use Rattle.interval.specs.Results.{product_of-is, quotient_of, quotient_of-is, has_zero}
+use Rattle.interval.specs.Members.{alone_lies, zero_test, has_one, one_test}
 use Rattle.expr_dag.specs.Shapes.{is_at, node_at-value, are_known}
+use Rattle.expr_dag.specs.Operands.{at_value, lifted_in, lifted_one, quotient_in, quotient_out}
 use Rattle.facts.specs.declared.relative.RelativeError.{RelativeError}
 use Rattle.facts.specs.declared.fact.Fact.{Fact}
 use Rattle.facts.specs.declared.fact.Fact.TheVariants as fact
@@ -30,23 +30,19 @@ use Rattle.facts.specs.Parts.{error_from, error_of_part}
 use Rattle.facts.specs.CommonParts.{at_option, if-some, expr_same}
 use Rattle.facts.specs.Promises.{IsSound}
 use Rattle.facts.specs.Conclusions.{given}
-use Rattle.facts.specs.RelativeConclusions.{void_only}
+use Rattle.facts.specs.RelativeConclusions.{void_only, no_void_rel}
+use Rattle.facts.specs.RelatedZeros.{first_nonzero, second_zero}
+use Rattle.facts.specs.Known.{HasValue, one_value, bnd_out, nzr_out, rel_out, rel_in}
 use Rattle.theorem_rel.specs.Values.{unit}
 use Rattle.theorem_rel.specs.Operations.{joint, joint_fact, relative_product_rule}
 use Rattle.theorem_rel.specs.Operations.{relative_chain_rule, less_one, over_one, ratio_fact}
 use Rattle.theorem_rel.specs.Operations.{relative_quotient_rule, turned_fact, relative_turned_rule}
 use Rattle.theorem_rel.specs.Operations.{relative_negation_rule, weighted, rel_or_void, sum_fact}
 use Rattle.theorem_rel.specs.Operations.{is_share, relative_sum_rule}
-use Rattle.facts.specs.grid_words.FractionLaws.{add-zero, mul-zero}
 use Rattle.theorem_rel.specs.Numbers.{product_errors, chain_errors, turned_error, ratio_errors}
 use Rattle.theorem_rel.specs.Numbers.{sum_errors}
 use Rattle.theorem_rel.specs.Related.{related_out, related_in}
-use Rattle.expr_dag.specs.Operands.{at_value, lifted_in, lifted_one, quotient_in, quotient_out}
-use Rattle.facts.specs.RelatedZeros.{first_nonzero, second_zero}
-use Rattle.facts.specs.Known.{HasValue, one_value, bnd_out, nzr_out, rel_out, rel_in}
-use Rattle.facts.specs.interval.Members.{alone_lies, zero_test, has_one, one_test}
 use Rattle.theorem_rel.specs.Members.{unit_plus, weighted_lies}
-use Rattle.facts.specs.RelativeConclusions.{no_void_rel}
 use Rattle.theorem_rel.specs.Given.{rel_given, part_given}
 
 -- ---- products and chains

@@ -4,19 +4,22 @@ use Rattle.std.specs.Prelude.{◌≡◌, ◌≢◌, ◌&&◌, Bool, List, [], �
 use Rattle.std.specs.Prelude.{if◌then◌else◌}
 use Rattle.std.proofs.Common.{sym, ap, subst, ◌∙◌}
 use Rattle.std.proofs.lemmas.Bool.{and_parts}
-use Rattle.expr_dag.specs.fx_model.Fraction.{Fraction, ◌+ℚ◌, ◌-ℚ◌, ◌*ℚ◌, ◌/ℚ◌, zero_ℚ, one_ℚ}
-use Rattle.expr_dag.specs.fx_model.Fraction.{mul_comm, add-neg}
-use Rattle.expr_dag.specs.fx_model.Enclosure.{Lies, product_holds}
-use Rattle.expr_dag.specs.fx_model.Expression.{Assignment, value}
-use Rattle.expr_dag.specs.fx_model.declared.ExprId.{ExprId}
-use Rattle.expr_dag.specs.fx_model.declared.Node.{Node}
-use Rattle.expr_dag.specs.fx_model.declared.Node.TheVariants as node
-use Rattle.facts.specs.grid_words.Products.{quotient_holds}
-use Rattle.facts.specs.interval.declared.interval.Interval.{Interval}
-use Rattle.facts.specs.interval.Intervals.{range_of}
-use Rattle.facts.specs.interval.Results.{sum_of, product_of, product_of-is, quotient_of}
-use Rattle.facts.specs.interval.Results.{quotient_of-is, point_of}
+use Rattle.fx_model.specs.Fraction.{Fraction, ◌+ℚ◌, ◌-ℚ◌, ◌*ℚ◌, ◌/ℚ◌, zero_ℚ, one_ℚ, mul_comm}
+use Rattle.fx_model.specs.Fraction.{add-neg, add-zero, mul-one}
+use Rattle.fx_model.specs.Enclosure.{Lies, product_holds}
+use Rattle.fx_model.specs.Expression.{Assignment, value}
+use Rattle.fx_model.specs.declared.ExprId.{ExprId}
+use Rattle.fx_model.specs.declared.Node.{Node}
+use Rattle.fx_model.specs.declared.Node.TheVariants as node
+use Rattle.grid_words.specs.Products.{quotient_holds}
+use Rattle.grid_words.specs.FractionLaws.{mul-div}
+use Rattle.interval.specs.declared.interval.Interval.{Interval}
+use Rattle.interval.specs.Intervals.{range_of}
+use Rattle.interval.specs.Results.{sum_of, product_of, product_of-is, quotient_of, quotient_of-is}
+use Rattle.interval.specs.Results.{point_of}
+use Rattle.interval.specs.Members.{alone_lies, zero_test}
 use Rattle.expr_dag.specs.Shapes.{is_at, is_known, are_known}
+use Rattle.expr_dag.specs.Operands.{at_value, lifted_out, lifted_in, quotient_in}
 use Rattle.facts.specs.declared.relative.RelativeError.{RelativeError}
 use Rattle.facts.specs.declared.fact.Fact.{Fact}
 use Rattle.facts.specs.declared.fact.Fact.TheVariants as fact
@@ -28,16 +31,13 @@ use Rattle.facts.specs.CommonParts.{if-some, expr_same}
 use Rattle.facts.specs.Promises.{IsSound}
 use Rattle.facts.specs.Conclusions.{given}
 use Rattle.facts.specs.RelativeConclusions.{rel_of, void_only}
+use Rattle.facts.specs.Known.{HasValue, one_value, bnd_out, bnd_in, nzr_out, rel_out}
 use Rattle.theorem_rel.specs.Values.{unit, relative_to_itself_rule, relative_difference_rule}
 use Rattle.theorem_rel.specs.Values.{zero_or_void, difference_fact, difference_by_error_rule}
 use Rattle.theorem_rel.specs.Values.{value_fact, value_by_error_rule, quotient_fact}
 use Rattle.theorem_rel.specs.Values.{quotient_by_error_rule}
-use Rattle.facts.specs.grid_words.FractionLaws.{add-zero, mul-one, mul-div}
 use Rattle.theorem_rel.specs.Numbers.{error_alone, difference_error}
 use Rattle.theorem_rel.specs.Related.{related_out}
-use Rattle.expr_dag.specs.Operands.{at_value, lifted_out, lifted_in, quotient_in}
-use Rattle.facts.specs.Known.{HasValue, one_value, bnd_out, bnd_in, nzr_out, rel_out}
-use Rattle.facts.specs.interval.Members.{alone_lies, zero_test}
 use Rattle.theorem_rel.specs.Members.{unit_plus}
 use Rattle.theorem_rel.specs.Given.{rel_given, part_given}
 

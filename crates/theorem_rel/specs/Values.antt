@@ -2,13 +2,13 @@
 -- function from premises and a target to its conclusion. What fits no row gives nothing. "Both are
 -- 0" is what a REL fact says without an interval.
 use Rattle.std.specs.Prelude.{◌&&◌, List, [], ◌∷◌, Option, Some, None, if◌then◌else◌}
-use Rattle.expr_dag.specs.fx_model.Fraction.{zero_ℚ, one_ℚ}
-use Rattle.expr_dag.specs.fx_model.declared.ExprId.{ExprId}
-use Rattle.expr_dag.specs.fx_model.declared.Node.{Node}
-use Rattle.expr_dag.specs.fx_model.declared.Node.TheVariants as node
-use Rattle.facts.specs.interval.declared.interval.Interval.{Interval}
-use Rattle.facts.specs.interval.Intervals.{range_of}
-use Rattle.facts.specs.interval.Results.{sum_of, product_of, quotient_of, point_of, has_zero}
+use Rattle.fx_model.specs.Fraction.{zero_ℚ, one_ℚ}
+use Rattle.fx_model.specs.declared.ExprId.{ExprId}
+use Rattle.fx_model.specs.declared.Node.{Node}
+use Rattle.fx_model.specs.declared.Node.TheVariants as node
+use Rattle.interval.specs.declared.interval.Interval.{Interval}
+use Rattle.interval.specs.Intervals.{range_of}
+use Rattle.interval.specs.Results.{sum_of, product_of, quotient_of, point_of, has_zero}
 use Rattle.expr_dag.specs.Shapes.{is_at, is_known, are_known}
 use Rattle.facts.specs.declared.relative.RelativeError.{RelativeError}
 use Rattle.facts.specs.declared.fact.Fact.{Fact}

@@ -1,6 +1,6 @@
 // Relative errors of operations.
 ghost use Rattle.std.specs.Prelude.{◌≡◌, slice_get};
-ghost use Rattle.facts.specs.interval.Results.{sum_of};
+ghost use Rattle.interval.specs.Results.{sum_of};
 ghost use Rattle.facts.specs.Conclusions.{only_if};
 ghost use Rattle.facts.specs.Parts.{error_from, error_of_part};
 ghost use Rattle.facts.specs.RelativeConclusions.{void_only};
@@ -15,8 +15,10 @@ ghost use Rattle.theorem_rel.specs.Operations.{weighted, rel_or_void, sum_fact, 
 ghost use Rattle.theorem_rel.specs.Operations.{relative_sum_rule};
 
 use crate::parts::error_within;
-use expr_dag::{Dag, ExprId, Node};
-use facts::{Fact, Interval, RelativeError, Slot};
+use expr_dag::Dag;
+use fx_model::{ExprId, Node};
+use facts::{Fact, RelativeError, Slot};
+use interval::Interval;
 
 /// From REL(a, c, I), REL(b, d, K): REL(a * b, c * d, (I + K) + I * K); both are 0 where those of a
 /// premise are (Gappa: `mul_rr`).

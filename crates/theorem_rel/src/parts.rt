@@ -2,7 +2,8 @@
 ghost use Rattle.std.specs.Prelude.{◌≡◌};
 ghost use Rattle.facts.specs.Parts.{error_of_part};
 
-use facts::{Interval, RelativeError};
+use interval::Interval;
+use facts::RelativeError;
 
 /// The interval, where there is one, as relative errors.
 #[inline(always)]

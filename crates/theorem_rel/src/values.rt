@@ -6,8 +6,10 @@ ghost use Rattle.theorem_rel.specs.Values.{value_fact, value_by_error_rule, quot
 ghost use Rattle.theorem_rel.specs.Values.{quotient_by_error_rule};
 
 use crate::parts::error_within;
-use expr_dag::{Dag, ExprId, Node};
-use facts::{Fact, Interval, RelativeError, Slot};
+use expr_dag::Dag;
+use fx_model::{ExprId, Node};
+use facts::{Fact, RelativeError, Slot};
+use interval::Interval;
 
 /// From BND(x): REL(x, x, [0, 0]) (Gappa: `rel_refl`).
 #[inline(always)]

@@ -1,21 +1,22 @@
 -- For every box there are accepted steps that conclude its best facts.
-use Rattle.std.specs.Prelude.{◌≡◌, ◌<◌, ◌≤◌, ◌+◌, ◌*◌, ◌^◌, ℕ, zero, suc, List, []}
-use Rattle.std.specs.Prelude.{◌∷◌, ◌++◌, length, Option, Some, None, slice_get, map, refl}
+use Rattle.std.specs.Prelude.{◌≡◌, ◌<◌, ◌≤◌, ◌+◌, ◌*◌, ◌^◌, ℕ, zero, suc, List, [], ◌∷◌, ◌++◌}
+use Rattle.std.specs.Prelude.{length, Option, Some, None, slice_get, map, refl}
 use Rattle.std.proofs.Common.{sym, ◌∙◌, ap, subst, inl, inr, arith}
 use Rattle.std.proofs.lemmas.List.{length-append}
 use Rattle.std.proofs.lemmas.Option.{slice_get_within}
 use Rattle.fx_model.specs.declared.ExprId.{ExprId}
 use Rattle.fx_model.specs.declared.Node.{Node}
 use Rattle.fx_model.specs.declared.Node.TheVariants as node
-use Rattle.derivation.specs.interval.Results.{whole_interval}
-use Rattle.derivation.specs.facts.declared.fact.Fact.{Fact}
-use Rattle.derivation.specs.facts.declared.fact.Slot.{Slot}
-use Rattle.derivation.specs.facts.declared.fact.Fact.TheVariants as fact
-use Rattle.derivation.specs.facts.declared.fact.Slot.TheVariants as slot
-use Rattle.derivation.specs.facts.declared.hint.HintRow.{HintRow}
-use Rattle.derivation.specs.facts.Order.{slot_of}
-use Rattle.cert_checker.specs.theorem_list.Concludes.{concludes}
-use Rattle.derivation.specs.facts.declared.instance.Instance.{Instance}
+use Rattle.interval.specs.Results.{whole_interval}
+use Rattle.facts.specs.declared.fact.Fact.{Fact}
+use Rattle.facts.specs.declared.fact.Slot.{Slot}
+use Rattle.facts.specs.declared.fact.Fact.TheVariants as fact
+use Rattle.facts.specs.declared.fact.Slot.TheVariants as slot
+use Rattle.facts.specs.declared.hint.HintRow.{HintRow}
+use Rattle.facts.specs.Order.{slot_of}
+use Rattle.facts.specs.declared.instance.Instance.{Instance}
+use Rattle.facts.specs.CommonParts.{at_option}
+use Rattle.theorem_list.specs.Concludes.{concludes}
 use Rattle.derivation.specs.Derivations.{Setting, At}
 use Rattle.derivation.specs.Known.{Piece}
 use Rattle.derivation.specs.Rounds.{IsProper, conclusion}
@@ -24,8 +25,8 @@ use Rattle.derivation.specs.Exists.{joined, with_fact, with_fact-improves, with_
 use Rattle.derivation.specs.Exists.{conclusion_of, after_instances, after_round, after_rounds}
 use Rattle.derivation.specs.Exists.{blank, with_hypotheses, line_of, with_lines, table_at}
 use Rattle.derivation.specs.Steps.{improved_proper}
-use Rattle.cert_checker.specs.cert_bytes.declared.item.StepRow.{StepRow}
-use Rattle.cert_checker.specs.cert_bytes.Certificates.{IsCounted, IsShort}
+use Rattle.cert_bytes.specs.declared.item.StepRow.{StepRow}
+use Rattle.cert_bytes.specs.Certificates.{IsCounted, IsShort}
 use Rattle.cert_checker.specs.Open.{Numbered, with_step}
 use Rattle.cert_checker.specs.declared.given.Given.TheVariants as given
 use Rattle.cert_checker.specs.Given.{given_number, given_short, given_low}
@@ -38,7 +39,6 @@ use Rattle.tree_certificates.specs.Cited.{step_kept, behind_both, premises_found
 use Rattle.tree_certificates.specs.Cited.{mapped, reads_length}
 use Rattle.tree_certificates.specs.Coming.{met_by, coming, aims, enough, coming_accepted, placed_at}
 use Rattle.tree_certificates.specs.Coming.{traced_more, met_by_interval, line_joined}
-use Rattle.derivation.specs.facts.CommonParts.{at_option}
 
 one_longer : (rows : List StepRow) (row : StepRow) (n : ℕ) → length rows ≤ n
     → length (rows ++ row ∷ []) ≤ n + 1

@@ -7,32 +7,26 @@ use Rattle.fx_model.specs.Fraction.{zero_ℚ, one_ℚ}
 use Rattle.fx_model.specs.declared.ExprId.{ExprId}
 use Rattle.fx_model.specs.declared.Node.{Node}
 use Rattle.fx_model.specs.declared.Node.TheVariants as node
-use Rattle.derivation.specs.interval.declared.interval.Interval.{Interval}
-use Rattle.derivation.specs.interval.Results.{negation_of, sum_of, difference_of, product_of}
-use Rattle.derivation.specs.interval.Results.{quotient_of, point_of, whole_interval, size_of}
-use Rattle.expr_dag.specs.Shapes.{is_at}
-use Rattle.derivation.specs.facts.declared.size.Size.{Size}
-use Rattle.derivation.specs.facts.declared.fact.Fact.TheVariants as fact
-use Rattle.derivation.specs.facts.declared.fact.Slot.TheVariants as slot
-use Rattle.derivation.specs.facts.Order.{is_same}
-use Rattle.derivation.specs.facts.Parts.{size_within}
-use Rattle.derivation.specs.facts.Conclusions.{abs_of, bnd_of}
-use Rattle.cert_checker.specs.theorem_arith.Shapes.{is_one}
-use Rattle.cert_checker.specs.theorem_arith.Bounds.{literal_at, literal_rule, negation_rule}
-use Rattle.cert_checker.specs.theorem_arith.Bounds.{binary_rule, sum_rule, difference_rule}
-use Rattle.cert_checker.specs.theorem_arith.Bounds.{product_rule, difference_with_itself_rule}
-use Rattle.cert_checker.specs.theorem_arith.Bounds.{square_rule, quotient_rule}
-use Rattle.cert_checker.specs.theorem_arith.Bounds.{quotient_by_nonzero_rule}
-use Rattle.cert_checker.specs.theorem_arith.Bounds.{quotient_by_itself_rule}
-use Rattle.cert_checker.specs.theorem_arith.Sizes.{size_rule, around, value_rule, is_above}
-use Rattle.cert_checker.specs.theorem_arith.Sizes.{is_below, signed_fact, sign_rule}
-use Rattle.cert_checker.specs.theorem_arith.Sizes.{absolute_value_rule, abs_or_void, void_if_none}
-use Rattle.cert_checker.specs.theorem_arith.Sizes.{is_absolute_value, size_of_value_rule}
-use Rattle.cert_checker.specs.theorem_arith.Sizes.{size_of_negation_rule, size_of_product_rule}
-use Rattle.cert_checker.specs.theorem_arith.Sizes.{size_within_part, size_of_quotient_rule}
-use Rattle.cert_checker.specs.theorem_arith.Sizes.{size_of_sum, size_of_sum_rule}
-use Rattle.expr_dag.specs.Shapes.{is_at_out}
-use Rattle.derivation.specs.facts.Conclusions.{given}
+use Rattle.interval.specs.declared.interval.Interval.{Interval}
+use Rattle.interval.specs.Results.{negation_of, sum_of, difference_of, product_of, quotient_of}
+use Rattle.interval.specs.Results.{point_of, whole_interval, size_of}
+use Rattle.expr_dag.specs.Shapes.{is_at, is_at_out}
+use Rattle.facts.specs.declared.size.Size.{Size}
+use Rattle.facts.specs.declared.fact.Fact.TheVariants as fact
+use Rattle.facts.specs.declared.fact.Slot.TheVariants as slot
+use Rattle.facts.specs.Order.{is_same}
+use Rattle.facts.specs.Parts.{size_within}
+use Rattle.facts.specs.Conclusions.{abs_of, bnd_of, given}
+use Rattle.theorem_arith.specs.Shapes.{is_one}
+use Rattle.theorem_arith.specs.Bounds.{literal_at, literal_rule, negation_rule, binary_rule}
+use Rattle.theorem_arith.specs.Bounds.{sum_rule, difference_rule, product_rule}
+use Rattle.theorem_arith.specs.Bounds.{difference_with_itself_rule, square_rule, quotient_rule}
+use Rattle.theorem_arith.specs.Bounds.{quotient_by_nonzero_rule, quotient_by_itself_rule}
+use Rattle.theorem_arith.specs.Sizes.{size_rule, around, value_rule, is_above, is_below}
+use Rattle.theorem_arith.specs.Sizes.{signed_fact, sign_rule, absolute_value_rule, abs_or_void}
+use Rattle.theorem_arith.specs.Sizes.{void_if_none, is_absolute_value, size_of_value_rule}
+use Rattle.theorem_arith.specs.Sizes.{size_of_negation_rule, size_of_product_rule, size_within_part}
+use Rattle.theorem_arith.specs.Sizes.{size_of_quotient_rule, size_of_sum, size_of_sum_rule}
 use Rattle.tree_certificates.proofs.Fitting.{FitsSteps, only_never, given_never, bnd_never}
 use Rattle.tree_certificates.proofs.Fitting.{abs_never, only_given, given_both, only_void}
 

@@ -1,41 +1,39 @@
 -- What rules give can be written as steps.
 use Rattle.std.specs.Prelude.{◌≡◌, ◌&&◌, ◌||◌, not, [], ◌∷◌, Option, Some, None, slice_get, refl}
+use Rattle.std.specs.Prelude.{Bool, true, false}
 use Rattle.std.proofs.Common.{◌∙◌, ap, arith}
+use Rattle.std.proofs.lemmas.Bool.{and_parts, and_from}
 use Rattle.fx_model.specs.Fraction.{zero_ℚ}
 use Rattle.fx_model.specs.declared.ExprId.{ExprId}
 use Rattle.fx_model.specs.declared.Node.{Node}
 use Rattle.fx_model.specs.declared.Node.TheVariants as node
-use Rattle.derivation.specs.interval.Intervals.{range_of}
-use Rattle.derivation.specs.interval.Results.{has_zero}
+use Rattle.interval.specs.Intervals.{range_of}
+use Rattle.interval.specs.Results.{has_zero}
+use Rattle.rounding.specs.declared.sign.Sign.TheVariants.{Unknown}
 use Rattle.expr_dag.specs.Shapes.{is_at, are_known}
-use Rattle.cert_checker.specs.rounding.declared.sign.Sign.TheVariants.{Unknown}
-use Rattle.derivation.specs.facts.declared.relative.RelativeError.{RelativeError}
-use Rattle.derivation.specs.facts.declared.fact.Fact.TheVariants as fact
-use Rattle.derivation.specs.facts.declared.fact.Slot.TheVariants as slot
-use Rattle.derivation.specs.facts.Order.{is_same}
-use Rattle.derivation.specs.facts.Ranges.{is_below}
-use Rattle.derivation.specs.facts.Conclusions.{bnd_of, fix_of}
-use Rattle.derivation.specs.facts.RelativeConclusions.{void_only}
-use Rattle.cert_checker.specs.theorem_arith.Shapes.{is_one}
-use Rattle.derivation.specs.facts.Places.{lesser_place, sum_place}
-use Rattle.cert_checker.specs.theorem_fix.Shapes.{rounding_at, error_rounding_at}
-use Rattle.cert_checker.specs.theorem_fix.Multiples.{literal_place, literal_multiple_rule}
-use Rattle.cert_checker.specs.theorem_fix.Multiples.{multiple_of_negation_rule}
-use Rattle.cert_checker.specs.theorem_fix.Multiples.{multiple_of_sum_rule, multiple_of_product_rule}
-use Rattle.cert_checker.specs.theorem_fix.Multiples.{last_place, rounded_multiple_rule, untouched}
-use Rattle.cert_checker.specs.theorem_fix.Multiples.{untouched_multiple_rule, point_place}
-use Rattle.cert_checker.specs.theorem_fix.Multiples.{number_multiple_rule}
-use Rattle.cert_checker.specs.theorem_fix.Nonzero.{nonzero_bound_rule, nonzero_size_rule}
-use Rattle.cert_checker.specs.theorem_fix.Nonzero.{nonzero_binary_rule, nonzero_product_rule}
-use Rattle.cert_checker.specs.theorem_fix.Nonzero.{nonzero_quotient_rule, nonzero_negation_rule}
-use Rattle.cert_checker.specs.theorem_fix.Nonzero.{are_sides, nonzero_or_void, nonzero_side_rule}
-use Rattle.cert_checker.specs.theorem_fix.Roundings.{rounded_interval, rounded_bound_rule}
-use Rattle.cert_checker.specs.theorem_fix.Roundings.{errors_of, error_rule, sign_of}
-use Rattle.cert_checker.specs.theorem_fix.Roundings.{signed_errors_of, signed_error_rule}
-use Rattle.cert_checker.specs.theorem_fix.Roundings.{multiple_error_rule}
-use Rattle.cert_checker.specs.theorem_fix.Shrunk.{shrunk_of, shrinking_rule, no_multiple_rule}
-use Rattle.std.specs.Prelude.{Bool, true, false}
-use Rattle.std.proofs.lemmas.Bool.{and_parts, and_from}
+use Rattle.facts.specs.declared.relative.RelativeError.{RelativeError}
+use Rattle.facts.specs.declared.fact.Fact.TheVariants as fact
+use Rattle.facts.specs.declared.fact.Slot.TheVariants as slot
+use Rattle.facts.specs.Order.{is_same}
+use Rattle.facts.specs.Ranges.{is_below}
+use Rattle.facts.specs.Conclusions.{bnd_of, fix_of}
+use Rattle.facts.specs.RelativeConclusions.{void_only}
+use Rattle.facts.specs.Places.{lesser_place, sum_place}
+use Rattle.theorem_arith.specs.Shapes.{is_one}
+use Rattle.theorem_fix.specs.Shapes.{rounding_at, error_rounding_at}
+use Rattle.theorem_fix.specs.Multiples.{literal_place, literal_multiple_rule}
+use Rattle.theorem_fix.specs.Multiples.{multiple_of_negation_rule, multiple_of_sum_rule}
+use Rattle.theorem_fix.specs.Multiples.{multiple_of_product_rule, last_place, rounded_multiple_rule}
+use Rattle.theorem_fix.specs.Multiples.{untouched, untouched_multiple_rule, point_place}
+use Rattle.theorem_fix.specs.Multiples.{number_multiple_rule}
+use Rattle.theorem_fix.specs.Nonzero.{nonzero_bound_rule, nonzero_size_rule, nonzero_binary_rule}
+use Rattle.theorem_fix.specs.Nonzero.{nonzero_product_rule, nonzero_quotient_rule}
+use Rattle.theorem_fix.specs.Nonzero.{nonzero_negation_rule, are_sides, nonzero_or_void}
+use Rattle.theorem_fix.specs.Nonzero.{nonzero_side_rule}
+use Rattle.theorem_fix.specs.Roundings.{rounded_interval, rounded_bound_rule, errors_of, error_rule}
+use Rattle.theorem_fix.specs.Roundings.{sign_of, signed_errors_of, signed_error_rule}
+use Rattle.theorem_fix.specs.Roundings.{multiple_error_rule}
+use Rattle.theorem_fix.specs.Shrunk.{shrunk_of, shrinking_rule, no_multiple_rule}
 use Rattle.tree_certificates.proofs.Fitting.{FitsSteps, only_never, given_never, bnd_never}
 use Rattle.tree_certificates.proofs.Fitting.{fix_never, only_given, given_both}
 

@@ -7,18 +7,18 @@ use Rattle.std.proofs.Math.Dec.{ltb}
 use Rattle.std.proofs.lemmas.Bool.{ltb-true}
 use Rattle.fx_model.specs.Expression.{IsOrdered}
 use Rattle.fx_model.specs.declared.Node.{Node}
-use Rattle.derivation.specs.facts.declared.fact.Fact.{Fact}
-use Rattle.derivation.specs.facts.declared.fact.Slot.{Slot}
-use Rattle.derivation.specs.facts.declared.fact.Fact.TheVariants as fact
-use Rattle.derivation.specs.facts.declared.fact.Slot.TheVariants as slot
-use Rattle.derivation.specs.facts.declared.hint.HintRow.{HintRow}
-use Rattle.derivation.specs.facts.Promises.{Rule}
-use Rattle.cert_checker.specs.theorem_arith.EachRule as arithmetic
-use Rattle.cert_checker.specs.theorem_fix.EachRule as multiples
-use Rattle.cert_checker.specs.theorem_rel.EachRule as relatives
-use Rattle.cert_checker.specs.rewrite_rules.EachRule as rewritings
-use Rattle.cert_checker.specs.theorem_list.Concludes.{listed, by_number, by_row, concludes}
-use Rattle.cert_checker.specs.theorem_list.Rows.{numbered, by_rows, each_row}
+use Rattle.facts.specs.declared.fact.Fact.{Fact}
+use Rattle.facts.specs.declared.fact.Slot.{Slot}
+use Rattle.facts.specs.declared.fact.Fact.TheVariants as fact
+use Rattle.facts.specs.declared.fact.Slot.TheVariants as slot
+use Rattle.facts.specs.declared.hint.HintRow.{HintRow}
+use Rattle.facts.specs.Promises.{Rule}
+use Rattle.theorem_arith.specs.EachRule as arithmetic
+use Rattle.theorem_fix.specs.EachRule as multiples
+use Rattle.theorem_rel.specs.EachRule as relatives
+use Rattle.rewrite_rules.specs.EachRule as rewritings
+use Rattle.theorem_list.specs.Concludes.{listed, by_number, by_row, concludes}
+use Rattle.theorem_list.specs.Rows.{numbered, by_rows, each_row}
 use Rattle.cert_checker.specs.declared.given.Given.TheVariants.{Hypothesis}
 use Rattle.cert_checker.specs.Given.{given_number}
 use Rattle.tree_certificates.specs.Writing.{IsVoidFitting, IsFromFew, IsNumberedLow}

@@ -1,41 +1,37 @@
 -- What rules give can be written as steps.
 use Rattle.std.specs.Prelude.{◌≡◌, ◌&&◌, Bool, true, false, [], ◌∷◌, Option, Some, None}
-use Rattle.std.specs.Prelude.{if◌then◌else◌, slice_get, refl}
+use Rattle.std.specs.Prelude.{if◌then◌else◌, slice_get, refl, List}
 use Rattle.std.proofs.Common.{◌∙◌, ap, arith}
+use Rattle.std.proofs.lemmas.Bool.{and_parts, and_from}
 use Rattle.fx_model.specs.Fraction.{zero_ℚ}
 use Rattle.fx_model.specs.declared.ExprId.{ExprId}
 use Rattle.fx_model.specs.declared.Node.TheVariants as node
-use Rattle.derivation.specs.interval.declared.interval.Interval.{Interval}
-use Rattle.derivation.specs.interval.Intervals.{range_of}
-use Rattle.derivation.specs.interval.Results.{sum_of, quotient_of, point_of, has_zero}
-use Rattle.derivation.specs.interval.Members.{has_one}
-use Rattle.expr_dag.specs.Shapes.{is_at, is_known, are_known}
-use Rattle.derivation.specs.facts.declared.relative.RelativeError.{RelativeError}
-use Rattle.derivation.specs.facts.declared.fact.Fact.{Fact}
-use Rattle.derivation.specs.facts.declared.fact.Fact.TheVariants as fact
-use Rattle.derivation.specs.facts.declared.fact.Slot.TheVariants as slot
-use Rattle.derivation.specs.facts.Order.{is_same}
-use Rattle.derivation.specs.facts.Parts.{error_from, error_of_part}
-use Rattle.derivation.specs.facts.RelativeConclusions.{rel_of, void_only}
-use Rattle.cert_checker.specs.theorem_rel.Values.{unit, relative_to_itself_rule}
-use Rattle.cert_checker.specs.theorem_rel.Values.{relative_difference_rule, zero_or_void}
-use Rattle.cert_checker.specs.theorem_rel.Values.{difference_fact, difference_by_error_rule}
-use Rattle.cert_checker.specs.theorem_rel.Values.{value_fact, value_by_error_rule, quotient_fact}
-use Rattle.cert_checker.specs.theorem_rel.Values.{quotient_by_error_rule}
-use Rattle.cert_checker.specs.theorem_rel.Operations.{joint, joint_fact, relative_product_rule}
-use Rattle.cert_checker.specs.theorem_rel.Operations.{relative_chain_rule, over_one, ratio_fact}
-use Rattle.cert_checker.specs.theorem_rel.Operations.{relative_quotient_rule, turned_fact}
-use Rattle.cert_checker.specs.theorem_rel.Operations.{relative_turned_rule, relative_negation_rule}
-use Rattle.cert_checker.specs.theorem_rel.Operations.{weighted, rel_or_void, sum_fact, is_share}
-use Rattle.cert_checker.specs.theorem_rel.Operations.{relative_sum_rule}
 use Rattle.fx_model.specs.declared.Node.{Node}
-use Rattle.std.specs.Prelude.{List}
-use Rattle.std.proofs.lemmas.Bool.{and_parts, and_from}
-use Rattle.expr_dag.specs.Shapes.{is_at_out}
-use Rattle.derivation.specs.facts.Conclusions.{given}
+use Rattle.interval.specs.declared.interval.Interval.{Interval}
+use Rattle.interval.specs.Intervals.{range_of}
+use Rattle.interval.specs.Results.{sum_of, quotient_of, point_of, has_zero}
+use Rattle.interval.specs.Members.{has_one}
+use Rattle.expr_dag.specs.Shapes.{is_at, is_known, are_known, is_at_out}
+use Rattle.facts.specs.declared.relative.RelativeError.{RelativeError}
+use Rattle.facts.specs.declared.fact.Fact.{Fact}
+use Rattle.facts.specs.declared.fact.Fact.TheVariants as fact
+use Rattle.facts.specs.declared.fact.Slot.TheVariants as slot
+use Rattle.facts.specs.Order.{is_same}
+use Rattle.facts.specs.Parts.{error_from, error_of_part}
+use Rattle.facts.specs.RelativeConclusions.{rel_of, void_only}
+use Rattle.facts.specs.Conclusions.{given}
+use Rattle.facts.specs.CommonParts.{same_itself}
+use Rattle.theorem_rel.specs.Values.{unit, relative_to_itself_rule, relative_difference_rule}
+use Rattle.theorem_rel.specs.Values.{zero_or_void, difference_fact, difference_by_error_rule}
+use Rattle.theorem_rel.specs.Values.{value_fact, value_by_error_rule, quotient_fact}
+use Rattle.theorem_rel.specs.Values.{quotient_by_error_rule}
+use Rattle.theorem_rel.specs.Operations.{joint, joint_fact, relative_product_rule}
+use Rattle.theorem_rel.specs.Operations.{relative_chain_rule, over_one, ratio_fact}
+use Rattle.theorem_rel.specs.Operations.{relative_quotient_rule, turned_fact, relative_turned_rule}
+use Rattle.theorem_rel.specs.Operations.{relative_negation_rule, weighted, rel_or_void, sum_fact}
+use Rattle.theorem_rel.specs.Operations.{is_share, relative_sum_rule}
 use Rattle.tree_certificates.proofs.Fitting.{FitsSteps, only_never, given_never, only_given}
 use Rattle.tree_certificates.proofs.Fitting.{given_both, both_known, children_known}
-use Rattle.derivation.specs.facts.CommonParts.{same_itself}
 
 rel_never : (x y : ExprId) (o : Option RelativeError) → rel_of x y o ≡ Some fact.Void → ⊥
 rel_never x y None q = cc

@@ -1,31 +1,27 @@
 -- What rules give can be written as steps.
-use Rattle.std.specs.Prelude.{length, ◌&&◌, nat_lt, length, [], ◌∷◌, Some}
+use Rattle.std.specs.Prelude.{length, ◌&&◌, nat_lt, [], ◌∷◌, Some, ◌≡◌}
 use Rattle.std.proofs.Common.{◌∙◌, ap, arith}
 use Rattle.fx_model.specs.declared.ExprId.{ExprId}
 use Rattle.fx_model.specs.declared.Node.{Node}
 use Rattle.fx_model.specs.declared.Node.TheVariants as node
-use Rattle.derivation.specs.interval.declared.interval.Interval.{Interval}
-use Rattle.derivation.specs.interval.Results.{negation_of, sum_of, difference_of, product_of}
+use Rattle.interval.specs.declared.interval.Interval.{Interval}
+use Rattle.interval.specs.Results.{negation_of, sum_of, difference_of, product_of}
 use Rattle.expr_dag.specs.Shapes.{is_at, are_known}
-use Rattle.derivation.specs.facts.declared.hint.HintRow.{HintRow}
-use Rattle.derivation.specs.facts.declared.fact.Fact.{Fact}
-use Rattle.derivation.specs.facts.declared.fact.Slot.{Slot}
-use Rattle.derivation.specs.facts.declared.fact.Fact.TheVariants as fact
-use Rattle.derivation.specs.facts.declared.fact.Slot.TheVariants as slot
-use Rattle.derivation.specs.facts.Order.{is_same}
-use Rattle.cert_checker.specs.rewrite_rules.Differences.{sides_at, are_made, by_sides_rule}
-use Rattle.cert_checker.specs.rewrite_rules.Differences.{difference_of_sums_rule}
-use Rattle.cert_checker.specs.rewrite_rules.Differences.{difference_of_differences_rule}
-use Rattle.cert_checker.specs.rewrite_rules.Differences.{are_products, difference_of_products_rule}
-use Rattle.cert_checker.specs.rewrite_rules.Differences.{are_negations}
-use Rattle.cert_checker.specs.rewrite_rules.Differences.{difference_of_negations_rule, is_through}
-use Rattle.cert_checker.specs.rewrite_rules.Differences.{difference_through_rule, is_against}
-use Rattle.cert_checker.specs.rewrite_rules.Differences.{difference_against_rule}
-use Rattle.cert_checker.specs.rewrite_rules.Differences.{first_by_difference_rule}
-use Rattle.cert_checker.specs.rewrite_rules.Differences.{second_by_difference_rule}
-use Rattle.cert_checker.specs.rewrite_rules.Nothing.{zero_and_not_rule, both_zero_and_not_rule}
-use Rattle.cert_checker.specs.rewrite_rules.Rewriting.{show_row, rewritten, rewriting_rule}
-use Rattle.std.specs.Prelude.{◌≡◌}
+use Rattle.facts.specs.declared.hint.HintRow.{HintRow}
+use Rattle.facts.specs.declared.fact.Fact.{Fact}
+use Rattle.facts.specs.declared.fact.Slot.{Slot}
+use Rattle.facts.specs.declared.fact.Fact.TheVariants as fact
+use Rattle.facts.specs.declared.fact.Slot.TheVariants as slot
+use Rattle.facts.specs.Order.{is_same}
+use Rattle.rewrite_rules.specs.Differences.{sides_at, are_made, by_sides_rule}
+use Rattle.rewrite_rules.specs.Differences.{difference_of_sums_rule, difference_of_differences_rule}
+use Rattle.rewrite_rules.specs.Differences.{are_products, difference_of_products_rule}
+use Rattle.rewrite_rules.specs.Differences.{are_negations, difference_of_negations_rule, is_through}
+use Rattle.rewrite_rules.specs.Differences.{difference_through_rule, is_against}
+use Rattle.rewrite_rules.specs.Differences.{difference_against_rule, first_by_difference_rule}
+use Rattle.rewrite_rules.specs.Differences.{second_by_difference_rule}
+use Rattle.rewrite_rules.specs.Nothing.{zero_and_not_rule, both_zero_and_not_rule}
+use Rattle.rewrite_rules.specs.Rewriting.{show_row, rewritten, rewriting_rule}
 use Rattle.tree_certificates.proofs.Fitting.{FitsSteps, only_never, given_never, few_by}
 
 by_sides_rule-fits : (make : ExprId → ExprId → Node) (op : Interval → Interval → Interval)

@@ -7,16 +7,16 @@ use Rattle.std.proofs.lemmas.Bool.{and_from}
 use Rattle.fx_model.specs.declared.ExprId.{ExprId}
 use Rattle.fx_model.specs.declared.Node.{Node}
 use Rattle.fx_model.specs.Expression.{ChildrenBelow, IsOrdered, children_later}
-use Rattle.derivation.specs.interval.declared.interval.Interval.{Interval}
+use Rattle.interval.specs.declared.interval.Interval.{Interval}
 use Rattle.expr_dag.specs.Shapes.{is_at, is_at_out, is_known, are_known}
-use Rattle.derivation.specs.facts.declared.place.FixPlace.{FixPlace}
-use Rattle.derivation.specs.facts.declared.size.Size.{Size}
-use Rattle.derivation.specs.facts.declared.fact.Fact.{Fact}
-use Rattle.derivation.specs.facts.declared.fact.Slot.{Slot}
-use Rattle.derivation.specs.facts.declared.fact.Fact.TheVariants as fact
-use Rattle.derivation.specs.facts.declared.fact.Slot.TheVariants as slot
-use Rattle.derivation.specs.facts.Promises.{Rule}
-use Rattle.derivation.specs.facts.Conclusions.{only_if, given_if, bnd_of, abs_of, fix_of}
+use Rattle.facts.specs.declared.place.FixPlace.{FixPlace}
+use Rattle.facts.specs.declared.size.Size.{Size}
+use Rattle.facts.specs.declared.fact.Fact.{Fact}
+use Rattle.facts.specs.declared.fact.Slot.{Slot}
+use Rattle.facts.specs.declared.fact.Fact.TheVariants as fact
+use Rattle.facts.specs.declared.fact.Slot.TheVariants as slot
+use Rattle.facts.specs.Promises.{Rule}
+use Rattle.facts.specs.Conclusions.{only_if, given_if, bnd_of, abs_of, fix_of}
 
 -- Where nodes are made of earlier ones, what a rule gives can be written as a step: there is room
 -- for its premises, and VOID is given also where VOID is aimed at.

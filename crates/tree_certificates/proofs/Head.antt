@@ -5,16 +5,16 @@ use Rattle.std.specs.Prelude.{length, map, Some, slice_get, refl}
 use Rattle.std.proofs.Common.{sym, ◌∙◌, ap, subst, arith}
 use Rattle.std.proofs.lemmas.List.{append_assoc, length-append}
 use Rattle.fx_model.specs.declared.Node.{Node}
-use Rattle.derivation.specs.facts.declared.hint.HintMark.{HintMark}
-use Rattle.derivation.specs.facts.declared.hint.HintRow.{HintRow}
+use Rattle.facts.specs.declared.hint.HintMark.{HintMark}
+use Rattle.facts.specs.declared.hint.HintRow.{HintRow}
+use Rattle.goals.specs.declared.goal.Goal.{Goal}
+use Rattle.goals.specs.declared.line.Line.{Line}
+use Rattle.goals.specs.declared.line.Line.TheVariants as line
 use Rattle.derivation.specs.Derivations.{Setting}
-use Rattle.derivation.specs.goals.declared.goal.Goal.{Goal}
-use Rattle.derivation.specs.goals.declared.line.Line.{Line}
-use Rattle.derivation.specs.goals.declared.line.Line.TheVariants as line
-use Rattle.cert_checker.specs.cert_bytes.declared.item.Item.{Item}
-use Rattle.cert_checker.specs.cert_bytes.declared.item.Item.TheVariants as item
-use Rattle.cert_checker.specs.cert_bytes.Certificates.{AreDue}
-use Rattle.cert_checker.specs.cert_bytes.declared.order.DueItem.TheVariants.{Nodes, Marks, Sections}
+use Rattle.cert_bytes.specs.declared.item.Item.{Item}
+use Rattle.cert_bytes.specs.declared.item.Item.TheVariants as item
+use Rattle.cert_bytes.specs.Certificates.{AreDue}
+use Rattle.cert_bytes.specs.declared.order.DueItem.TheVariants.{Nodes, Marks, Sections}
 use Rattle.cert_checker.specs.declared.subject.Subject.{Subject}
 use Rattle.cert_checker.specs.Contexts.{Context, first}
 use Rattle.cert_checker.specs.After.{after}

@@ -5,16 +5,16 @@ use Rattle.std.specs.Prelude.{take, Option, Some, None, refl}
 use Rattle.std.proofs.Common.{sym, ◌∙◌, ap, subst, inl, inr, arith}
 use Rattle.std.proofs.lemmas.Bool.{cases_lt}
 use Rattle.fx_model.specs.declared.Node.{Node}
-use Rattle.derivation.specs.facts.declared.fact.Fact.{Fact}
-use Rattle.derivation.specs.facts.declared.hint.HintRow.{HintRow}
+use Rattle.facts.specs.declared.fact.Fact.{Fact}
+use Rattle.facts.specs.declared.hint.HintRow.{HintRow}
+use Rattle.goals.specs.declared.goal.Goal.{Goal}
+use Rattle.goals.specs.declared.line.Line.{Line}
 use Rattle.derivation.specs.Derivations.{Setting}
 use Rattle.derivation.specs.Known.{Piece}
 use Rattle.derivation.specs.Exists.{table_at}
-use Rattle.derivation.specs.goals.declared.goal.Goal.{Goal}
-use Rattle.derivation.specs.goals.declared.line.Line.{Line}
-use Rattle.cert_checker.specs.cert_bytes.declared.item.Item.{Item}
-use Rattle.cert_checker.specs.cert_bytes.Certificates.{AreDue}
-use Rattle.cert_checker.specs.cert_bytes.declared.order.DueItem.TheVariants.{Sections}
+use Rattle.cert_bytes.specs.declared.item.Item.{Item}
+use Rattle.cert_bytes.specs.Certificates.{AreDue}
+use Rattle.cert_bytes.specs.declared.order.DueItem.TheVariants.{Sections}
 use Rattle.cert_checker.specs.declared.subject.Subject.{Subject}
 use Rattle.cert_checker.specs.Contexts.{Context, open_piece}
 use Rattle.cert_checker.specs.After.{case_behind, cuts_behind, around_of}

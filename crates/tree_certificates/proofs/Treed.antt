@@ -9,23 +9,24 @@ use Rattle.fx_model.specs.declared.Node.{Node}
 use Rattle.fx_model.specs.declared.Node.TheVariants as node
 use Rattle.fx_model.specs.declared.ExprId.{ExprId}
 use Rattle.dyadic.specs.declared.number.Dyadic.{Dyadic}
-use Rattle.derivation.specs.interval.declared.interval.Interval.{Interval}
-use Rattle.derivation.specs.facts.declared.fact.Fact.{Fact}
-use Rattle.derivation.specs.facts.declared.fact.Slot.{Slot}
-use Rattle.derivation.specs.facts.declared.fact.Fact.TheVariants as fact
-use Rattle.derivation.specs.facts.declared.fact.Slot.TheVariants as slot
-use Rattle.derivation.specs.facts.declared.hint.HintRow.{HintRow}
+use Rattle.interval.specs.declared.interval.Interval.{Interval}
+use Rattle.facts.specs.declared.fact.Fact.{Fact}
+use Rattle.facts.specs.declared.fact.Slot.{Slot}
+use Rattle.facts.specs.declared.fact.Fact.TheVariants as fact
+use Rattle.facts.specs.declared.fact.Slot.TheVariants as slot
+use Rattle.facts.specs.declared.hint.HintRow.{HintRow}
+use Rattle.facts.specs.CommonParts.{void_is}
+use Rattle.goals.specs.declared.goal.Goal.{Goal}
+use Rattle.goals.specs.declared.line.Line.{Line}
 use Rattle.derivation.specs.Derivations.{Setting, At}
 use Rattle.derivation.specs.Known.{Piece}
 use Rattle.derivation.specs.Rounds.{IsProper}
 use Rattle.derivation.specs.Exists.{table_at}
-use Rattle.derivation.specs.goals.declared.goal.Goal.{Goal}
-use Rattle.derivation.specs.goals.declared.line.Line.{Line}
-use Rattle.cert_checker.specs.cert_bytes.declared.item.Item.{Item}
-use Rattle.cert_checker.specs.cert_bytes.declared.item.Item.TheVariants as item
-use Rattle.cert_checker.specs.cert_bytes.declared.item.StepRow.{StepRow}
-use Rattle.cert_checker.specs.cert_bytes.Certificates.{AreDue, IsShort}
-use Rattle.cert_checker.specs.cert_bytes.declared.order.DueItem.TheVariants.{Sections}
+use Rattle.cert_bytes.specs.declared.item.Item.{Item}
+use Rattle.cert_bytes.specs.declared.item.Item.TheVariants as item
+use Rattle.cert_bytes.specs.declared.item.StepRow.{StepRow}
+use Rattle.cert_bytes.specs.Certificates.{AreDue, IsShort}
+use Rattle.cert_bytes.specs.declared.order.DueItem.TheVariants.{Sections}
 use Rattle.cert_checker.specs.declared.open.Citable.{Citable}
 use Rattle.cert_checker.specs.declared.open.OpenCut.{OpenCut}
 use Rattle.cert_checker.specs.declared.subject.Subject.{Subject}
@@ -49,7 +50,6 @@ use Rattle.tree_certificates.specs.Moves.{next_behind}
 use Rattle.tree_certificates.specs.Cited.{below_behind, found_long}
 use Rattle.tree_certificates.proofs.Come.{child_trace}
 use Rattle.tree_certificates.proofs.Written.{AreWritten, rows_written, settled_long}
-use Rattle.derivation.specs.facts.CommonParts.{void_is}
 
 -- ---- contexts
 -- where the sections have begun, the number of cases was judged

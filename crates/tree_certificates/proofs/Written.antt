@@ -4,11 +4,12 @@ use Rattle.std.specs.Prelude.{None, IfSome, refl}
 use Rattle.std.specs.List.{AllByRecursion}
 use Rattle.std.proofs.Common.{arith}
 use Rattle.fx_model.specs.declared.Node.{Node}
-use Rattle.derivation.specs.facts.declared.fact.Fact.{Fact}
-use Rattle.derivation.specs.facts.declared.fact.Fact.TheVariants as fact
-use Rattle.derivation.specs.goals.declared.goal.Goal.{Goal}
-use Rattle.cert_checker.specs.cert_bytes.declared.item.StepRow.{StepRow}
-use Rattle.cert_checker.specs.cert_bytes.Certificates.{IsCounted, IsLong, IsOnShort, HasRoomFor}
+use Rattle.facts.specs.declared.fact.Fact.{Fact}
+use Rattle.facts.specs.declared.fact.Fact.TheVariants as fact
+use Rattle.facts.specs.CommonParts.{at_option}
+use Rattle.goals.specs.declared.goal.Goal.{Goal}
+use Rattle.cert_bytes.specs.declared.item.StepRow.{StepRow}
+use Rattle.cert_bytes.specs.Certificates.{IsCounted, IsLong, IsOnShort, HasRoomFor}
 use Rattle.cert_checker.specs.declared.open.Citable.{Citable}
 use Rattle.cert_checker.specs.Open.{Numbered, with_step}
 use Rattle.cert_checker.specs.Steps.{step_fact, step_facts, before, IsMetWith, AreKnown, Givens}
@@ -17,7 +18,6 @@ use Rattle.cert_checker.specs.Faults.{AreSettled}
 use Rattle.tree_certificates.specs.Sections.{AreAccepted, AllBelow, AreBelow}
 use Rattle.tree_certificates.specs.Traces.{HasFields, HaveFields}
 use Rattle.tree_certificates.specs.Cited.{step_below, found_below, found_long}
-use Rattle.derivation.specs.facts.CommonParts.{at_option}
 
 -- ---- what is found is below the next
 -- the numbers are long where the next is no longer than that

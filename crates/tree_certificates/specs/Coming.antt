@@ -4,18 +4,23 @@ use Rattle.std.proofs.Common.{sym, ◌∙◌, ap, subst, inl, inr}
 use Rattle.fx_model.specs.declared.Node.{Node}
 use Rattle.fx_model.specs.Grid.{Bound, Below, Above, At as Number}
 use Rattle.fx_model.specs.Enclosure.{BoundLe}
-use Rattle.derivation.specs.facts.declared.fact.Fact.{Fact}
-use Rattle.derivation.specs.facts.declared.fact.Slot.{Slot}
-use Rattle.derivation.specs.facts.declared.fact.Fact.TheVariants as fact
-use Rattle.derivation.specs.facts.declared.fact.Slot.TheVariants as slot
-use Rattle.derivation.specs.facts.Order.{slot_of, IsStronger, meet_of}
-use Rattle.derivation.specs.facts.Laws.{IsStronger-refl, meet_exists}
-use Rattle.derivation.specs.facts.Meets.{meet-exchanged, meet-stronger}
+use Rattle.fx_model.specs.declared.ExprId.{ExprId}
+use Rattle.interval.specs.declared.interval.Interval.{Interval}
+use Rattle.interval.specs.Intervals.{range_of}
+use Rattle.interval.specs.Results.{whole_interval}
+use Rattle.facts.specs.declared.fact.Fact.{Fact}
+use Rattle.facts.specs.declared.fact.Slot.{Slot}
+use Rattle.facts.specs.declared.fact.Fact.TheVariants as fact
+use Rattle.facts.specs.declared.fact.Slot.TheVariants as slot
+use Rattle.facts.specs.Order.{slot_of, IsStronger, meet_of}
+use Rattle.facts.specs.Laws.{IsStronger-refl, meet_exists}
+use Rattle.facts.specs.Meets.{meet-exchanged, meet-stronger}
+use Rattle.facts.specs.CommonParts.{void_cases}
 use Rattle.derivation.specs.Derivations.{At}
 use Rattle.derivation.specs.Rounds.{IsWritten}
 use Rattle.derivation.specs.Parts.{some_same, slot_cases, stronger_slot}
 use Rattle.derivation.specs.Exists.{joined}
-use Rattle.cert_checker.specs.cert_bytes.declared.item.StepRow.{StepRow}
+use Rattle.cert_bytes.specs.declared.item.StepRow.{StepRow}
 use Rattle.cert_checker.specs.Open.{Numbered, with_step}
 use Rattle.cert_checker.specs.Steps.{step_fact, step_facts, IsMetWith, IsLike, AreKnown, Givens}
 use Rattle.cert_checker.specs.Steps.{gives, met_with, IsEnough, IsConcluded, target_of}
@@ -23,11 +28,6 @@ use Rattle.tree_certificates.specs.Sections.{behind, ArePlaces, IsTraced, AreBel
 use Rattle.tree_certificates.specs.Writing.{IsSlotKnown}
 use Rattle.tree_certificates.specs.Cited.{step_kept, step_new, below_behind, behind_both}
 use Rattle.tree_certificates.specs.Cited.{accepted_both}
-use Rattle.derivation.specs.facts.CommonParts.{void_cases}
-use Rattle.fx_model.specs.declared.ExprId.{ExprId}
-use Rattle.derivation.specs.interval.declared.interval.Interval.{Interval}
-use Rattle.derivation.specs.interval.Intervals.{range_of}
-use Rattle.derivation.specs.interval.Results.{whole_interval}
 
 -- With what a fact that comes is met: the fact on the slot; nothing where VOID comes.
 abbrev pub met_by : Option Fact → Fact → Option Fact

@@ -2,18 +2,18 @@
 use Rattle.std.specs.Prelude.{◌≤◌, ◌^◌, ℕ, List, [], ◌∷◌, length, map, Some, None}
 use Rattle.fx_model.specs.declared.Node.{Node}
 use Rattle.fx_model.specs.Expression.{IsOrdered}
-use Rattle.derivation.specs.facts.declared.fact.Fact.{Fact}
-use Rattle.derivation.specs.facts.declared.fact.Slot.{Slot}
-use Rattle.derivation.specs.facts.declared.fact.Slot.TheVariants as slot
-use Rattle.derivation.specs.facts.declared.hint.HintRow.{HintRow}
-use Rattle.cert_checker.specs.theorem_list.Concludes.{concludes}
+use Rattle.facts.specs.declared.fact.Fact.{Fact}
+use Rattle.facts.specs.declared.fact.Slot.{Slot}
+use Rattle.facts.specs.declared.fact.Slot.TheVariants as slot
+use Rattle.facts.specs.declared.hint.HintRow.{HintRow}
+use Rattle.goals.specs.declared.goal.Goal.{Goal}
+use Rattle.goals.specs.declared.line.Line.TheVariants as line
+use Rattle.theorem_list.specs.Concludes.{concludes}
 use Rattle.derivation.specs.Derivations.{Setting}
 use Rattle.derivation.specs.Known.{Piece}
 use Rattle.derivation.specs.Rounds.{IsProper}
 use Rattle.derivation.specs.Exists.{table_at}
-use Rattle.derivation.specs.goals.declared.goal.Goal.{Goal}
-use Rattle.derivation.specs.goals.declared.line.Line.TheVariants as line
-use Rattle.cert_checker.specs.cert_bytes.declared.item.Item.{Item}
+use Rattle.cert_bytes.specs.declared.item.Item.{Item}
 use Rattle.cert_checker.specs.declared.subject.Subject.{Subject}
 use Rattle.cert_checker.specs.Open.{Numbered}
 use Rattle.cert_checker.specs.Accepted.{Accepts}

@@ -4,17 +4,21 @@ use Rattle.std.specs.Prelude.{◌++◌, []}
 use Rattle.std.proofs.Common.{arith, sym, subst}
 use Rattle.fx_model.specs.declared.ExprId.{ExprId}
 use Rattle.dyadic.specs.declared.number.Dyadic.{Dyadic}
-use Rattle.derivation.specs.interval.declared.interval.Interval.{Interval}
-use Rattle.derivation.specs.facts.declared.fact.Slot.{Slot}
-use Rattle.derivation.specs.facts.declared.fact.Fact.TheVariants as fact
-use Rattle.derivation.specs.facts.declared.hint.HintRow.{HintRow}
+use Rattle.interval.specs.declared.interval.Interval.{Interval}
+use Rattle.facts.specs.declared.fact.Slot.{Slot}
+use Rattle.facts.specs.declared.fact.Fact.TheVariants as fact
+use Rattle.facts.specs.declared.hint.HintRow.{HintRow}
+use Rattle.facts.specs.declared.hint.HintMark.{HintMark}
+use Rattle.goals.specs.declared.goal.Goal.{Goal}
+use Rattle.goals.specs.declared.line.Line.{Line}
 use Rattle.derivation.specs.Derivations.{Setting}
 use Rattle.derivation.specs.Known.{Piece}
 use Rattle.derivation.specs.Exists.{table_at}
-use Rattle.derivation.specs.goals.declared.goal.Goal.{Goal}
-use Rattle.derivation.specs.goals.declared.line.Line.{Line}
-use Rattle.cert_checker.specs.cert_bytes.declared.item.Item.TheVariants as item
-use Rattle.cert_checker.specs.cert_bytes.declared.item.StepRow.{StepRow}
+use Rattle.cert_bytes.specs.declared.item.Item.TheVariants as item
+use Rattle.cert_bytes.specs.declared.item.StepRow.{StepRow}
+use Rattle.cert_bytes.specs.declared.item.Item.{Item}
+use Rattle.cert_bytes.specs.Certificates.{AreDue}
+use Rattle.cert_bytes.specs.declared.order.DueItem.TheVariants.{Marks, Sections}
 use Rattle.cert_checker.specs.declared.subject.Subject.{Subject}
 use Rattle.cert_checker.specs.Contexts.{Context, open_piece}
 use Rattle.cert_checker.specs.Steps.{step_fact}
@@ -30,10 +34,6 @@ use Rattle.tree_certificates.specs.Roots.{Root, IsRoot, AreRoots, steps_in_roots
 use Rattle.tree_certificates.specs.Walks.{numbered, behind_steps, IsLater, IsOpen, IsBehind}
 use Rattle.tree_certificates.specs.Walks.{IsEndOf, Frame, LiesIn, left_in, lines_behind}
 use Rattle.tree_certificates.specs.Walks.{steps_behind, IsDue, Ending}
-use Rattle.derivation.specs.facts.declared.hint.HintMark.{HintMark}
-use Rattle.cert_checker.specs.cert_bytes.declared.item.Item.{Item}
-use Rattle.cert_checker.specs.cert_bytes.Certificates.{AreDue}
-use Rattle.cert_checker.specs.cert_bytes.declared.order.DueItem.TheVariants.{Marks, Sections}
 
 -- This is so of everything that can be written, of so many steps a box, with what certificates are
 -- judged against.

@@ -5,18 +5,18 @@ use Rattle.fx_model.specs.declared.ExprId.{ExprId}
 use Rattle.fx_model.specs.declared.Node.{Node}
 use Rattle.dyadic.specs.declared.number.Dyadic.{Dyadic}
 use Rattle.dyadic.specs.Rising.{IsRising}
-use Rattle.derivation.specs.interval.declared.interval.Interval.{Interval}
-use Rattle.derivation.specs.facts.declared.fact.Fact.{Fact}
-use Rattle.derivation.specs.facts.declared.fact.Slot.TheVariants as slot
-use Rattle.derivation.specs.facts.declared.hint.HintRow.{HintRow}
+use Rattle.interval.specs.declared.interval.Interval.{Interval}
 use Rattle.expr_dag.specs.Nodes.{IsInLimits}
+use Rattle.facts.specs.declared.fact.Fact.{Fact}
+use Rattle.facts.specs.declared.fact.Slot.TheVariants as slot
+use Rattle.facts.specs.declared.hint.HintRow.{HintRow}
+use Rattle.goals.specs.declared.goal.Goal.{Goal}
+use Rattle.goals.specs.declared.line.Line.{Line}
+use Rattle.goals.specs.Settles.{Settles}
 use Rattle.derivation.specs.Derivations.{Setting, At}
 use Rattle.derivation.specs.Known.{Piece}
 use Rattle.derivation.specs.Exists.{table_at}
-use Rattle.cert_checker.specs.cert_bytes.Certificates.{HasShortParts}
-use Rattle.derivation.specs.goals.declared.goal.Goal.{Goal}
-use Rattle.derivation.specs.goals.declared.line.Line.{Line}
-use Rattle.derivation.specs.goals.Settles.{Settles}
+use Rattle.cert_bytes.specs.Certificates.{HasShortParts}
 use Rattle.cert_checker.specs.declared.open.OpenCut.{OpenCut}
 use Rattle.cert_checker.specs.declared.subject.Subject.{Subject}
 use Rattle.cert_checker.specs.Contexts.{piece_fact}

@@ -3,20 +3,20 @@ use Rattle.std.specs.Prelude.{◌≡◌, ◌≤◌, ◌+◌, ◌-◌, ℕ, true,
 use Rattle.std.specs.Prelude.{Some}
 use Rattle.fx_model.specs.declared.ExprId.{ExprId}
 use Rattle.dyadic.specs.declared.number.Dyadic.{Dyadic}
-use Rattle.derivation.specs.facts.declared.fact.Fact.{Fact}
-use Rattle.derivation.specs.facts.declared.fact.Slot.{Slot}
-use Rattle.derivation.specs.facts.declared.hint.HintRow.{HintRow}
+use Rattle.facts.specs.declared.fact.Fact.{Fact}
+use Rattle.facts.specs.declared.fact.Slot.{Slot}
+use Rattle.facts.specs.declared.hint.HintRow.{HintRow}
+use Rattle.goals.specs.declared.goal.Goal.{Goal}
+use Rattle.goals.specs.declared.line.Line.{Line}
 use Rattle.derivation.specs.Derivations.{Setting}
 use Rattle.derivation.specs.Known.{Piece}
 use Rattle.derivation.specs.Rounds.{IsProper}
 use Rattle.derivation.specs.Exists.{table_at}
-use Rattle.derivation.specs.goals.declared.goal.Goal.{Goal}
-use Rattle.derivation.specs.goals.declared.line.Line.{Line}
-use Rattle.cert_checker.specs.cert_bytes.declared.item.Item.{Item}
-use Rattle.cert_checker.specs.cert_bytes.declared.item.Item.TheVariants as item
-use Rattle.cert_checker.specs.cert_bytes.declared.item.StepRow.{StepRow}
-use Rattle.cert_checker.specs.cert_bytes.declared.order.DueItem.TheVariants.{Sections}
-use Rattle.cert_checker.specs.cert_bytes.Certificates.{AreDue}
+use Rattle.cert_bytes.specs.declared.item.Item.{Item}
+use Rattle.cert_bytes.specs.declared.item.Item.TheVariants as item
+use Rattle.cert_bytes.specs.declared.item.StepRow.{StepRow}
+use Rattle.cert_bytes.specs.declared.order.DueItem.TheVariants.{Sections}
+use Rattle.cert_bytes.specs.Certificates.{AreDue}
 use Rattle.cert_checker.specs.declared.open.Citable.{Citable}
 use Rattle.cert_checker.specs.declared.subject.Subject.{Subject}
 use Rattle.cert_checker.specs.Open.{Numbered}

@@ -1,14 +1,14 @@
 -- When what derivations use can be written as steps that the checker accepts.
 use Rattle.std.specs.Prelude.{◌≡◌, ◌<◌, ◌≤◌, ◌^◌, ⊤, ℕ, List, length, Option, Some, slice_get}
 use Rattle.fx_model.specs.declared.Node.{Node}
-use Rattle.derivation.specs.facts.declared.fact.Fact.{Fact}
-use Rattle.derivation.specs.facts.declared.fact.Slot.{Slot}
-use Rattle.derivation.specs.facts.declared.fact.Fact.TheVariants as fact
-use Rattle.derivation.specs.facts.declared.fact.Slot.TheVariants as slot
-use Rattle.derivation.specs.facts.declared.hint.HintRow.{HintRow}
-use Rattle.derivation.specs.facts.declared.instance.Instance.{Instance}
-use Rattle.derivation.specs.facts.Order.{slot_of}
-use Rattle.cert_checker.specs.theorem_list.Concludes.{concludes}
+use Rattle.facts.specs.declared.fact.Fact.{Fact}
+use Rattle.facts.specs.declared.fact.Slot.{Slot}
+use Rattle.facts.specs.declared.fact.Fact.TheVariants as fact
+use Rattle.facts.specs.declared.fact.Slot.TheVariants as slot
+use Rattle.facts.specs.declared.hint.HintRow.{HintRow}
+use Rattle.facts.specs.declared.instance.Instance.{Instance}
+use Rattle.facts.specs.Order.{slot_of}
+use Rattle.theorem_list.specs.Concludes.{concludes}
 use Rattle.derivation.specs.Lists.{RuleList, IsOnTargetList}
 use Rattle.derivation.specs.Derivations.{Setting}
 use Rattle.cert_checker.specs.declared.given.Given.TheVariants.{Hypothesis}

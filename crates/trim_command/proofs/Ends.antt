@@ -1,26 +1,25 @@
 -- How a run of `trim` ends.
 use Rattle.std.specs.Prelude.{◌⊎◌, ⊤}
 use Rattle.std.proofs.Common.{◌≡◌, ◌≢◌, ◌∙◌, Option, Some, refl, sym, subst, inl, inr}
-use Rattle.check_command.specs.script_grammar.Spells.{View, Spells}
+use Rattle.script_grammar.specs.Spells.{View, Spells}
+use Rattle.command_line.specs.Trim.{AskedTrim}
 use Rattle.whole_texts.specs.Texts.{IsText}
 use Rattle.whole_texts.specs.declared.read.ReadStop.{ReadStop}
 use Rattle.whole_texts.specs.declared.read.ReadStop.TheVariants as stop
-use Rattle.command_line.specs.Trim.{AskedTrim}
-use Rattle.command_runs.specs.Ends.{IsOnce, IsPutBy, IsStopPutBy, exhausted_runs, all_kept}
-use Rattle.command_runs.specs.Ends.{left_so, others_kept}
-use Rattle.command_runs.specs.Ends.{or_unread, put_runs, run_by, starved_runs, stop_runs}
-use Rattle.command_runs.specs.Ends.{unread_kept, unread_once, unwritten_runs}
-use Rattle.command_runs.specs.Fates.{AreTold, Fate, IsKeptFile, IsTold, Left, MayWrite}
-use Rattle.command_runs.specs.Fates.{Runs, begun, ending}
+use Rattle.command_runs.specs.Ends.{IsOnce, IsPutBy, IsStopPutBy, exhausted_runs, all_kept, left_so}
+use Rattle.command_runs.specs.Ends.{others_kept, or_unread, put_runs, run_by, starved_runs}
+use Rattle.command_runs.specs.Ends.{stop_runs, unread_kept, unread_once, unwritten_runs}
+use Rattle.command_runs.specs.Fates.{AreTold, Fate, IsKeptFile, IsTold, Left, MayWrite, Runs, begun}
+use Rattle.command_runs.specs.Fates.{ending}
 use Rattle.command_runs.specs.Fates.Ending.{Done}
 use Rattle.command_runs.specs.Fates.Left.{Kept, Whole}
 use Rattle.command_runs.specs.Runs.{Bytes, Told, Run, IsKept, IsSilent, ReadFailed, WriteFailed}
 use Rattle.command_runs.specs.declared.status.Status.{Status}
 use Rattle.command_runs.specs.declared.status.Status.TheVariants as status
-use Rattle.check_command.specs.script_texts.Texts.{IsLong, ReadsBehind, long_refused, no_script}
-use Rattle.check_command.specs.script_texts.Texts.{told_script, told_text}
-use Rattle.trim_command.specs.Command.{TrimFate, TrimTold, IsTrimRun}
+use Rattle.script_texts.specs.Texts.{IsLong, ReadsBehind, long_refused, no_script, told_script}
+use Rattle.script_texts.specs.Texts.{told_text}
 use Rattle.check_command.specs.Laws.{IsCertTold}
+use Rattle.trim_command.specs.Command.{TrimFate, TrimTold, IsTrimRun}
 use Rattle.trim_command.specs.Laws.{AcceptableAreTrimmed, TrimAnswersAreOne}
 use Rattle.trim_command.specs.Trimmed.{IsTrimmed, TrimPrints, line_of, new_bytes}
 use Rattle.trim_command.specs.Writing.{Answers, BreaksOff}

@@ -1,22 +1,22 @@
 -- One answer comes of a text and a told certificate, and one that is accepted is trimmed.
 use Rattle.std.specs.Prelude.{◌≡◌, ◌≤◌, List, [], ◌∷◌, length, Option, Some, Ok}
 use Rattle.std.proofs.Common.{◌∙◌, ap, sym, subst, refl, inl, inr, arith}
-use Rattle.cert_trim.specs.cert_checker.goals.declared.line.Line.{Line}
-use Rattle.check_command.specs.script_grammar.Spells.{View, Spells, SpellsOnce, NeverBoth}
-use Rattle.cert_trim.specs.cert_bytes.declared.item.Item.{Item}
-use Rattle.cert_trim.specs.cert_bytes.declared.order.DueItem.{DueItem}
-use Rattle.cert_trim.specs.cert_bytes.declared.order.DueItem.TheVariants.{Head}
-use Rattle.cert_trim.specs.cert_bytes.declared.style.Style.TheVariants.{First}
-use Rattle.cert_trim.specs.cert_bytes.Certificates.{SpellsCertificate, SpellsOnce as SpelledOnce}
-use Rattle.cert_trim.specs.cert_bytes.Due.{due_behind}
-use Rattle.cert_trim.specs.cert_bytes.ReadOut.{AreBytes, AreRead, SpelledAreRead}
-use Rattle.cert_trim.specs.cert_bytes.Reading.{Cursor, cursor}
-use Rattle.cert_trim.specs.cert_checker.declared.subject.Subject.{Subject}
-use Rattle.cert_trim.specs.cert_checker.Accepted.{Accepts}
-use Rattle.cert_trim.specs.cert_checker.Contexts.{Context}
-use Rattle.cert_trim.specs.cert_checker.Outcomes.{accepted, unread, refused, SpelledAreAccepted}
-use Rattle.check_command.specs.script_checker.Checking.{AreAcceptedFor, ChecksAreOne, ComesFor}
-use Rattle.check_command.specs.script_checker.Subjects.{IsSubjectOf}
+use Rattle.goals.specs.declared.line.Line.{Line}
+use Rattle.script_grammar.specs.Spells.{View, Spells, SpellsOnce, NeverBoth}
+use Rattle.cert_bytes.specs.declared.item.Item.{Item}
+use Rattle.cert_bytes.specs.declared.order.DueItem.{DueItem}
+use Rattle.cert_bytes.specs.declared.order.DueItem.TheVariants.{Head}
+use Rattle.cert_bytes.specs.declared.style.Style.TheVariants.{First}
+use Rattle.cert_bytes.specs.Certificates.{SpellsCertificate, SpellsOnce as SpelledOnce}
+use Rattle.cert_bytes.specs.Due.{due_behind}
+use Rattle.cert_bytes.specs.ReadOut.{AreBytes, AreRead, SpelledAreRead}
+use Rattle.cert_bytes.specs.Reading.{Cursor, cursor}
+use Rattle.cert_checker.specs.declared.subject.Subject.{Subject}
+use Rattle.cert_checker.specs.Accepted.{Accepts}
+use Rattle.cert_checker.specs.Contexts.{Context}
+use Rattle.cert_checker.specs.Outcomes.{accepted, unread, refused, SpelledAreAccepted}
+use Rattle.script_checker.specs.Checking.{AreAcceptedFor, ChecksAreOne, ComesFor}
+use Rattle.script_checker.specs.Subjects.{IsSubjectOf}
 use Rattle.cert_trim.specs.Law.{AcceptsTrimmed, AllLeftAreUsed}
 use Rattle.command_runs.specs.Runs.{Bytes}
 use Rattle.command_runs.specs.Fates.{Left, WhereTold}

@@ -1,27 +1,26 @@
 -- What a certificate's items come to, from what its check answers.
 use Rattle.std.specs.Prelude.{◌≡◌, List, Option, Some, Result, Ok, Err, IfOk}
 use Rattle.std.proofs.Common.{◌∙◌, ap, subst, refl}
-use Rattle.cert_trim.specs.cert_checker.goals.declared.line.Line.{Line}
-use Rattle.check_command.specs.script_grammar.Spells.{View}
-use Rattle.cert_trim.specs.cert_bytes.declared.item.Item.{Item}
-use Rattle.cert_trim.specs.cert_bytes.declared.order.DueItem.TheVariants.{Head}
-use Rattle.cert_trim.specs.cert_bytes.declared.style.Style.TheVariants.{First, Second}
-use Rattle.cert_trim.specs.cert_bytes.Certificates.{SpellsCertificate}
-use Rattle.cert_trim.specs.cert_bytes.Pieces.{cursor_of}
-use Rattle.cert_trim.specs.cert_bytes.ReadOut.{AreBytes, AreRead}
-use Rattle.cert_trim.specs.cert_bytes.Readers.{Progress, fresh}
-use Rattle.cert_trim.specs.cert_bytes.Reading.{Cursor, cursor}
-use Rattle.cert_trim.specs.cert_bytes.Styles.{none_seen}
-use Rattle.cert_trim.specs.cert_checker.declared.fault.CheckStop.{CheckStop}
-use Rattle.cert_trim.specs.cert_checker.declared.keep.Accepted.{Accepted}
-use Rattle.cert_trim.specs.cert_checker.declared.subject.Subject.{Subject}
-use Rattle.cert_trim.specs.cert_checker.Accepted.{Accepts}
-use Rattle.cert_trim.specs.cert_checker.Keeping.{lines_of}
-use Rattle.check_command.specs.script_checker.Subjects.{IsSubjectOf}
-use Rattle.check_command.specs.script_checker.Checking.{AreAcceptedFor, AreAcceptedItemsFor}
-use Rattle.check_command.specs.script_checker.Checking.{ChecksFor, ShowsFor}
+use Rattle.goals.specs.declared.line.Line.{Line}
+use Rattle.script_grammar.specs.Spells.{View}
+use Rattle.cert_bytes.specs.declared.item.Item.{Item}
+use Rattle.cert_bytes.specs.declared.order.DueItem.TheVariants.{Head}
+use Rattle.cert_bytes.specs.declared.style.Style.TheVariants.{First, Second}
+use Rattle.cert_bytes.specs.Certificates.{SpellsCertificate}
+use Rattle.cert_bytes.specs.Pieces.{cursor_of}
+use Rattle.cert_bytes.specs.ReadOut.{AreBytes, AreRead}
+use Rattle.cert_bytes.specs.Readers.{Progress, fresh}
+use Rattle.cert_bytes.specs.Reading.{Cursor, cursor}
+use Rattle.cert_bytes.specs.Styles.{none_seen}
+use Rattle.cert_bytes.specs.Spelling.{certificate_of}
+use Rattle.cert_checker.specs.declared.fault.CheckStop.{CheckStop}
+use Rattle.cert_checker.specs.declared.keep.Accepted.{Accepted}
+use Rattle.cert_checker.specs.declared.subject.Subject.{Subject}
+use Rattle.cert_checker.specs.Accepted.{Accepts}
+use Rattle.cert_checker.specs.Keeping.{lines_of}
+use Rattle.script_checker.specs.Subjects.{IsSubjectOf}
+use Rattle.script_checker.specs.Checking.{AreAcceptedFor, AreAcceptedItemsFor, ChecksFor, ShowsFor}
 use Rattle.cert_trim.specs.Law.{AcceptsTrimmed, AllLeftAreUsed, AreLedBySome}
-use Rattle.cert_trim.specs.cert_bytes.Spelling.{certificate_of}
 use Rattle.command_runs.specs.Runs.{Bytes, Told}
 use Rattle.trim_command.specs.Trimmed.{AreTrimmable}
 

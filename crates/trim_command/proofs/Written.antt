@@ -1,20 +1,20 @@
 -- What is answered to a script and a certificate, and what is left in the new file.
 use Rattle.std.specs.Prelude.{◌≡◌, ◌⊎◌, List, Option, Some, Err}
 use Rattle.std.proofs.Common.{◌∙◌, subst, refl, inl, inr}
-use Rattle.check_command.specs.script_grammar.Spells.{View, Spells}
-use Rattle.cert_trim.specs.cert_bytes.declared.fault.CertFault.{CertFault}
-use Rattle.cert_trim.specs.cert_bytes.declared.item.Item.{Item}
-use Rattle.cert_trim.specs.cert_bytes.declared.style.Style.TheVariants.{First}
-use Rattle.cert_trim.specs.cert_bytes.Reading.{cursor}
-use Rattle.cert_trim.specs.cert_checker.declared.fault.CheckFault.{CheckFault}
-use Rattle.cert_trim.specs.cert_checker.declared.fault.CheckStop.{CheckStop}
-use Rattle.cert_trim.specs.cert_checker.declared.fault.CheckStop.TheVariants.{Cert, Check}
-use Rattle.check_command.specs.script_checker.Checking.{ChecksFor}
-use Rattle.check_command.specs.report.Certificates.{cert_fault_line, check_fault_line}
+use Rattle.script_grammar.specs.Spells.{View, Spells}
+use Rattle.cert_bytes.specs.declared.fault.CertFault.{CertFault}
+use Rattle.cert_bytes.specs.declared.item.Item.{Item}
+use Rattle.cert_bytes.specs.declared.style.Style.TheVariants.{First}
+use Rattle.cert_bytes.specs.Reading.{cursor}
+use Rattle.cert_checker.specs.declared.fault.CheckFault.{CheckFault}
+use Rattle.cert_checker.specs.declared.fault.CheckStop.{CheckStop}
+use Rattle.cert_checker.specs.declared.fault.CheckStop.TheVariants.{Cert, Check}
+use Rattle.script_checker.specs.Checking.{ChecksFor}
 use Rattle.command_runs.specs.Runs.{Bytes}
 use Rattle.command_runs.specs.Fates.Left.{Kept, Whole}
 use Rattle.command_runs.specs.declared.status.Status.{Status}
 use Rattle.command_runs.specs.declared.status.Status.TheVariants as status
+use Rattle.report.specs.Certificates.{cert_fault_line, check_fault_line}
 use Rattle.trim_command.specs.Trimmed.{AreTrimmable, new_bytes, line_of}
 use Rattle.trim_command.specs.Writing.{Writes, IsBegun, Answers, BreaksOff}
 

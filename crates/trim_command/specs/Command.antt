@@ -1,12 +1,12 @@
 -- What the command `trim` comes to.
 use Rattle.std.specs.Prelude.{◌≡◌, ◌≤◌, ◌^◌, List, length, Some}
-use Rattle.cert_trim.specs.cert_bytes.declared.item.Item.{Item}
-use Rattle.cert_trim.specs.cert_bytes.Certificates.{SpellsCertificate}
+use Rattle.cert_bytes.specs.declared.item.Item.{Item}
+use Rattle.cert_bytes.specs.Certificates.{SpellsCertificate}
 use Rattle.command_line.specs.Trim.{AskedTrim}
 use Rattle.command_runs.specs.Runs.{Bytes, Told, Run}
 use Rattle.command_runs.specs.Fates.{Fate, Comes, IsRunOf, MayWrite, OrUnread, IsKeptFile, OfText}
 use Rattle.command_runs.specs.declared.status.Status.TheVariants as status
-use Rattle.check_command.specs.script_texts.Texts.{ReadsBehind}
+use Rattle.script_texts.specs.Texts.{ReadsBehind}
 use Rattle.check_command.specs.Checked.{IsAcceptable}
 use Rattle.trim_command.specs.Trimmed.{TrimPrints, new_bytes}
 

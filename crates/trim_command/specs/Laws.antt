@@ -1,7 +1,7 @@
 -- One answer is defined for a text and a certificate, and those that are accepted are trimmed.
 use Rattle.std.specs.Prelude.{◌≡◌, ◌≤◌, ◌^◌, List, length, Option, Some}
-use Rattle.cert_trim.specs.cert_bytes.declared.item.Item.{Item}
-use Rattle.cert_trim.specs.cert_bytes.Certificates.{SpellsCertificate}
+use Rattle.cert_bytes.specs.declared.item.Item.{Item}
+use Rattle.cert_bytes.specs.Certificates.{SpellsCertificate}
 use Rattle.command_runs.specs.Runs.{Bytes}
 use Rattle.command_runs.specs.Fates.{Left}
 use Rattle.command_runs.specs.Fates.Left.{Whole}

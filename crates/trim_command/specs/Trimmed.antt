@@ -1,29 +1,29 @@
 -- What comes of a script's text and a certificate that is trimmed.
 use Rattle.std.specs.Prelude.{◌≡◌, ◌≤◌, ◌<◌, ◌^◌, ◌⊎◌, List, length, Option, Some}
-use Rattle.cert_trim.specs.cert_checker.goals.declared.line.Line.{Line}
-use Rattle.check_command.specs.script_grammar.Spells.{View, Spells}
-use Rattle.cert_trim.specs.cert_bytes.declared.item.Item.{Item}
-use Rattle.cert_trim.specs.cert_bytes.declared.order.DueItem.TheVariants.{Head}
-use Rattle.cert_trim.specs.cert_bytes.declared.style.Style.TheVariants.{First}
-use Rattle.cert_trim.specs.cert_bytes.Certificates.{SpellsCertificate}
-use Rattle.cert_trim.specs.cert_bytes.Reading.{cursor}
-use Rattle.cert_trim.specs.cert_bytes.ReadOut.{AreBytes, AreRead}
-use Rattle.cert_trim.specs.cert_checker.declared.subject.Subject.{Subject}
-use Rattle.cert_trim.specs.cert_checker.Contexts.{Context}
-use Rattle.cert_trim.specs.cert_checker.Accepted.{Accepts}
-use Rattle.cert_trim.specs.cert_checker.Outcomes.{accepted}
-use Rattle.check_command.specs.script_checker.Subjects.{IsSubjectOf}
-use Rattle.check_command.specs.script_checker.Checking.{ComesFor, AreAcceptedFor}
+use Rattle.goals.specs.declared.line.Line.{Line}
+use Rattle.script_grammar.specs.Spells.{View, Spells}
+use Rattle.cert_bytes.specs.declared.item.Item.{Item}
+use Rattle.cert_bytes.specs.declared.order.DueItem.TheVariants.{Head}
+use Rattle.cert_bytes.specs.declared.style.Style.TheVariants.{First}
+use Rattle.cert_bytes.specs.Certificates.{SpellsCertificate}
+use Rattle.cert_bytes.specs.Reading.{cursor}
+use Rattle.cert_bytes.specs.ReadOut.{AreBytes, AreRead}
+use Rattle.cert_bytes.specs.Spelling.{certificate_of}
+use Rattle.cert_checker.specs.declared.subject.Subject.{Subject}
+use Rattle.cert_checker.specs.Contexts.{Context}
+use Rattle.cert_checker.specs.Accepted.{Accepts}
+use Rattle.cert_checker.specs.Outcomes.{accepted}
+use Rattle.script_checker.specs.Subjects.{IsSubjectOf}
+use Rattle.script_checker.specs.Checking.{ComesFor, AreAcceptedFor}
 use Rattle.cert_trim.specs.Trimmed.{step_count}
 use Rattle.cert_trim.specs.Used.{AreAllUsed, trimmed}
-use Rattle.cert_trim.specs.cert_bytes.Spelling.{certificate_of}
-use Rattle.check_command.specs.report.Certificates.{new_too_long_line}
 use Rattle.command_runs.specs.Runs.{Bytes}
 use Rattle.command_runs.specs.Fates.{Left, WhereTold}
 use Rattle.command_runs.specs.Fates.Left.{Kept, Whole}
 use Rattle.command_runs.specs.declared.status.Status.{Status}
 use Rattle.command_runs.specs.declared.status.Status.TheVariants as status
-use Rattle.check_command.specs.script_texts.Texts.{IsRefusedWith}
+use Rattle.report.specs.Certificates.{new_too_long_line}
+use Rattle.script_texts.specs.Texts.{IsRefusedWith}
 use Rattle.check_command.specs.Checked.{IsFaulty}
 use Rattle.trim_command.specs.Lines.{trimmed_line}
 

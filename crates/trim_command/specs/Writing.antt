@@ -1,12 +1,12 @@
 -- What the new file holds.
 use Rattle.std.specs.Prelude.{◌≡◌, ◌≤◌, ◌<◌, ◌^◌, List, length, Option}
+use Rattle.cert_bytes.specs.declared.item.Item.{Item}
 use Rattle.whole_texts.specs.Pieces.{HoldsAll, HoldsFront}
-use Rattle.cert_trim.specs.cert_bytes.declared.item.Item.{Item}
-use Rattle.check_command.specs.report.Certificates.{new_too_long_line}
 use Rattle.command_runs.specs.Runs.{Bytes}
 use Rattle.command_runs.specs.Fates.{Left, Leaves, begun}
 use Rattle.command_runs.specs.declared.status.Status.{Status}
 use Rattle.command_runs.specs.declared.status.Status.TheVariants as status
+use Rattle.report.specs.Certificates.{new_too_long_line}
 use Rattle.trim_command.specs.Trimmed.{new_bytes, line_of, IsTrimmed, TrimPrints}
 
 -- The items were written without unused steps; or they are too long so, and it is what it was.

@@ -1,8 +1,6 @@
 //! The command `trim`: writes a certificate of a script anew, without its unused steps.
 #![tactic(auto)]
 
-// What callers name of the crates below.
-pub use check_command::run_check;
 
 mod answer;
 mod command;

@@ -1,16 +1,17 @@
 // Items without unused steps, written to the new file.
 ghost use Rattle.std.specs.Prelude.{◌≡◌, ◌⊎◌, IfOk, IsErrOf};
 ghost use Rattle.std.specs.List.{AllByRecursion};
-ghost use Rattle.cert_trim.specs.cert_bytes.Certificates.{HasSpelling};
+ghost use Rattle.cert_bytes.specs.Certificates.{HasSpelling};
+ghost use Rattle.cert_trim.specs.Law.{AreLedBySome};
 ghost use Rattle.whole_texts.specs.OnlyWrites.{OnlyWrites};
 ghost use Rattle.cert_rewriting.specs.declared.writing.WriteStop.TheVariants as WriteStop;
-ghost use Rattle.cert_trim.specs.Law.{AreLedBySome};
 ghost use Rattle.trim_command.specs.Writing.{Writes, IsBegun};
 
 use crate::lines::trimmed_line;
 use cert_rewriting::{MOST, WriteStop, spelled_length, write_items};
-use cert_trim::{Item, trim};
-use check_command::new_too_long_line;
+use cert_bytes::Item;
+use cert_trim::trim;
+use report::certificates::new_too_long_line;
 use command_runs::Status;
 use fx_edge::Folder;
 use std::alloc::Global;

@@ -3,26 +3,26 @@ use Rattle.std.specs.Prelude.{◌≡◌, ◌≤◌, ◌++◌, ℕ, List, [], Som
 use Rattle.std.proofs.Common.{inr, subst, ap, ◌∙◌}
 use Rattle.fx_model.specs.declared.Node.{Node}
 use Rattle.fx_model.specs.Expression.{IsOrdered}
-use Rattle.rule_universe.specs.facts.declared.fact.Fact.{Fact}
-use Rattle.rule_universe.specs.facts.declared.hint.HintRow.{HintRow}
-use Rattle.rule_universe.specs.facts.Order.{slot_of}
-use Rattle.script_grammar.specs.script_claims.declared.claim.Claim.{Claim}
-use Rattle.script_grammar.specs.script_claims.Facts.{goal_of, facts_of}
-use Rattle.rewrite_hints.specs.script_hints.declared.hint.Hint.{Hint}
-use Rattle.rewrite_hints.specs.Marks.{AreRows}
-use Rattle.rule_universe.specs.rule_instances.Instances.{IsInstance}
-use Rattle.rule_universe.specs.rule_instances.InOrder.{instance_list}
+use Rattle.pair_closure.specs.Reached.{Has, IsListOf}
+use Rattle.pair_closure.specs.Reached.IsReached.{begin}
+use Rattle.pair_closure.specs.Closure.{Pair, AreKnown, IsClosure}
+use Rattle.pair_closure.specs.Members.{has_left, has_right}
+use Rattle.facts.specs.declared.fact.Fact.{Fact}
+use Rattle.facts.specs.declared.hint.HintRow.{HintRow}
+use Rattle.facts.specs.Order.{slot_of}
+use Rattle.script_claims.specs.declared.claim.Claim.{Claim}
+use Rattle.script_claims.specs.Facts.{goal_of, facts_of}
+use Rattle.script_hints.specs.declared.hint.Hint.{Hint}
 use Rattle.script_grammar.specs.Spells.{View}
-use Rattle.rule_universe.specs.pair_closure.Reached.{Has, IsListOf}
-use Rattle.rule_universe.specs.pair_closure.Reached.IsReached.{begin}
-use Rattle.rule_universe.specs.pair_closure.Closure.{Pair, AreKnown, IsClosure}
+use Rattle.script_grammar.specs.Names.{ClaimIsOf, NamesNodes}
+use Rattle.rule_instances.specs.Instances.{IsInstance}
+use Rattle.rule_instances.specs.InOrder.{instance_list}
 use Rattle.rule_universe.specs.Worlds.{World, HasSlot, IsWhole}
 use Rattle.rule_universe.specs.Wholes.{IsLicensed, licensed_whole}
-use Rattle.script_grammar.specs.Names.{ClaimIsOf, NamesNodes}
+use Rattle.rewrite_hints.specs.Marks.{AreRows}
 use Rattle.universe.specs.Starts.{claims_pairs, hints_pairs, starting_pairs}
 use Rattle.universe.specs.Cases.{AreHypotheses, each_has}
 use Rattle.universe.specs.Universes.{IsUniverse}
-use Rattle.rule_universe.specs.pair_closure.Members.{has_left, has_right}
 use Rattle.universe.proofs.Named.{facts_slots, pairs_of_some, longer_by, rows_known}
 
 -- the pairs of hypotheses are among those to begin with

@@ -2,52 +2,46 @@
 use Rattle.std.specs.Prelude.{◌≡◌, ◌<◌, ◌≤◌, ℕ, zero, suc, List, [], ◌∷◌, ◌++◌, Option, Some, None}
 use Rattle.std.specs.Prelude.{length, map, slice_get, refl}
 use Rattle.std.specs.List.{AllByRecursion}
-use Rattle.std.proofs.Common.{arith, sym, subst, ap}
-use Rattle.std.proofs.lemmas.Option.{slice_get_within}
+use Rattle.std.proofs.Common.{arith, sym, subst, ap, inl, inr}
+use Rattle.std.proofs.lemmas.Option.{slice_get_within, get_or_from_slice_get}
 use Rattle.fx_model.specs.declared.ExprId.{ExprId}
 use Rattle.fx_model.specs.declared.Node.{Node}
 use Rattle.fx_model.specs.declared.Node.TheVariants as node
-use Rattle.fx_model.specs.Expression.{IsOrdered}
-use Rattle.rule_universe.specs.interval.declared.interval.Interval.{Interval}
-use Rattle.rule_universe.specs.expr_dag.Nodes.{IsAt}
-use Rattle.rule_universe.specs.facts.declared.fact.Fact.{Fact}
-use Rattle.rule_universe.specs.facts.declared.fact.Slot.TheVariants as slot
-use Rattle.rule_universe.specs.facts.declared.place.FixPlace.{FixPlace}
-use Rattle.rule_universe.specs.facts.RelativeConclusions.{rel_of}
-use Rattle.rule_universe.specs.facts.declared.relative.RelativeError.{RelativeError}
-use Rattle.rule_universe.specs.facts.declared.hint.HintRow.{HintRow}
-use Rattle.rule_universe.specs.facts.Order.{slot_of}
-use Rattle.rule_universe.specs.facts.Parts.{error_of_part}
-use Rattle.rule_universe.specs.facts.Conclusions.{bnd_of, fix_of}
-use Rattle.rule_universe.specs.facts.Places.{place_from}
-use Rattle.rewrite_hints.specs.script_bounds.Bounds.{written_range, outward_of}
-use Rattle.script_grammar.specs.script_claims.declared.claim.Claim.{Claim}
-use Rattle.script_grammar.specs.script_claims.declared.claim.Claim.TheVariants.{Bounded, Asked}
-use Rattle.script_grammar.specs.script_claims.declared.claim.Claim.TheVariants.{Relative}
-use Rattle.script_grammar.specs.script_claims.declared.claim.Claim.TheVariants.{RelativeAsked}
-use Rattle.script_grammar.specs.script_claims.declared.claim.Claim.TheVariants.{Multiple, Above}
-use Rattle.script_grammar.specs.script_claims.declared.claim.Claim.TheVariants.{Below}
-use Rattle.script_grammar.specs.script_claims.Facts.{hypothesis_fact, with_fact, facts_of}
-use Rattle.rewrite_hints.specs.script_hints.declared.hint.Hint.{Hint}
-use Rattle.rule_universe.specs.pair_closure.Reached.{Has}
-use Rattle.fx_model.specs.Expression.{ChildrenBelow}
-use Rattle.std.proofs.Common.{inl, inr}
-use Rattle.std.proofs.lemmas.Option.{get_or_from_slice_get}
-use Rattle.rule_universe.specs.pair_closure.Closure.{Pair, AreKnown, IsKnownPair}
-use Rattle.rule_universe.specs.pair_closure.Members.{none_at, some-inj, no_member, has_cases}
-use Rattle.rule_universe.specs.pair_closure.Members.{has_all, has_left, has_right, has_either}
-use Rattle.rewrite_hints.specs.Marks.{AreRows, AreKnownSides}
+use Rattle.fx_model.specs.Expression.{IsOrdered, ChildrenBelow}
+use Rattle.interval.specs.declared.interval.Interval.{Interval}
+use Rattle.expr_dag.specs.Nodes.{IsAt}
+use Rattle.pair_closure.specs.Reached.{Has}
+use Rattle.pair_closure.specs.Closure.{Pair, AreKnown, IsKnownPair}
+use Rattle.pair_closure.specs.Members.{none_at, some-inj, no_member, has_cases, has_all, has_left}
+use Rattle.pair_closure.specs.Members.{has_right, has_either}
+use Rattle.facts.specs.declared.fact.Fact.{Fact}
+use Rattle.facts.specs.declared.fact.Slot.TheVariants as slot
+use Rattle.facts.specs.declared.place.FixPlace.{FixPlace}
+use Rattle.facts.specs.RelativeConclusions.{rel_of}
+use Rattle.facts.specs.declared.relative.RelativeError.{RelativeError}
+use Rattle.facts.specs.declared.hint.HintRow.{HintRow}
+use Rattle.facts.specs.Order.{slot_of}
+use Rattle.facts.specs.Parts.{error_of_part}
+use Rattle.facts.specs.Conclusions.{bnd_of, fix_of}
+use Rattle.facts.specs.Places.{place_from}
+use Rattle.facts.specs.CommonParts.{stands, all_from}
+use Rattle.script_bounds.specs.Bounds.{written_range, outward_of}
+use Rattle.script_claims.specs.declared.claim.Claim.{Claim}
+use Rattle.script_claims.specs.declared.claim.Claim.TheVariants.{Bounded, Asked, Relative}
+use Rattle.script_claims.specs.declared.claim.Claim.TheVariants.{RelativeAsked, Multiple, Above}
+use Rattle.script_claims.specs.declared.claim.Claim.TheVariants.{Below}
+use Rattle.script_claims.specs.Facts.{hypothesis_fact, with_fact, facts_of}
+use Rattle.script_hints.specs.declared.hint.Hint.{Hint}
+use Rattle.script_hints.specs.declared.hint.Constraint.{Constraint}
+use Rattle.script_hints.specs.declared.hint.Constraint.TheVariants as constraint
+use Rattle.script_hints.specs.Needs.{need_of}
+use Rattle.script_grammar.specs.Spells.{View}
+use Rattle.script_grammar.specs.Names.{AreNodes, ClaimIsOf, ConstraintIsOf, HintIsOf, NamesNodes}
 use Rattle.rule_universe.specs.Worlds.{IsSlot}
 use Rattle.rule_universe.specs.Licensed.{NeedIsKnown, RowIsKnown, kid}
-use Rattle.rewrite_hints.specs.script_hints.declared.hint.Constraint.{Constraint}
-use Rattle.rewrite_hints.specs.script_hints.declared.hint.Constraint.TheVariants as constraint
-use Rattle.rewrite_hints.specs.script_hints.Needs.{need_of}
-use Rattle.script_grammar.specs.Spells.{View}
-use Rattle.script_grammar.specs.Names.{AreNodes, ClaimIsOf, ConstraintIsOf, HintIsOf}
-use Rattle.script_grammar.specs.Names.{NamesNodes}
+use Rattle.rewrite_hints.specs.Marks.{AreRows, AreKnownSides}
 use Rattle.universe.specs.Starts.{sides_of, whole_difference, claim_pairs, claims_pairs, hint_pairs}
 use Rattle.universe.specs.Starts.{hints_pairs, starting_pairs}
-use Rattle.rule_universe.specs.facts.CommonParts.{stands, all_from}
 
 -- ---- facts of hypotheses
 bnd_slot : (x : ExprId) (o : Option Interval) (f : Fact) → bnd_of x o ≡ Some f

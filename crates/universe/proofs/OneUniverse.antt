@@ -1,9 +1,9 @@
 -- A script has one universe.
 use Rattle.std.specs.Prelude.{◌≡◌}
 use Rattle.std.proofs.Common.{sym, ◌∙◌}
-use Rattle.rule_universe.specs.pair_closure.Closure.{ClosuresAreOne}
+use Rattle.pair_closure.specs.Closure.{ClosuresAreOne}
+use Rattle.rule_instances.specs.InOrder.{instance_list}
 use Rattle.rewrite_hints.specs.Marks.{rows_are_one}
-use Rattle.rule_universe.specs.rule_instances.InOrder.{instance_list}
 use Rattle.universe.specs.Starts.{starting_pairs}
 use Rattle.universe.specs.Universes.{UniversesAreOne}
 

@@ -2,13 +2,13 @@
 use Rattle.std.specs.Prelude.{◌≡◌, ℕ, zero, suc, List, [], ◌∷◌, Some, slice_get, refl}
 use Rattle.std.specs.List.{AllByRecursion}
 use Rattle.std.proofs.Common.{subst}
+use Rattle.pair_closure.specs.Reached.{Has}
+use Rattle.pair_closure.specs.Members.{has_all}
 use Rattle.script_cases.specs.Counted.{all_of_cases}
-use Rattle.script_grammar.specs.script_claims.declared.claim.Claim.{Claim}
+use Rattle.script_claims.specs.declared.claim.Claim.{Claim}
 use Rattle.script_grammar.specs.Spells.{View}
 use Rattle.script_grammar.specs.Cases.{cases_of}
 use Rattle.script_grammar.specs.Ranges.{HasFewCases}
-use Rattle.rule_universe.specs.pair_closure.Reached.{Has}
-use Rattle.rule_universe.specs.pair_closure.Members.{has_all}
 
 -- each of the claims is a hypothesis of the script
 abbrev pub AreHypotheses : View → List Claim → Type 0

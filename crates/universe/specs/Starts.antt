@@ -3,14 +3,12 @@ use Rattle.std.specs.Prelude.{List, [], ◌∷◌, ◌++◌, Option, Some, slice
 use Rattle.fx_model.specs.declared.ExprId.{ExprId}
 use Rattle.fx_model.specs.declared.Node.{Node}
 use Rattle.fx_model.specs.declared.Node.TheVariants.{Sub}
-use Rattle.rule_universe.specs.pair_closure.Closure.{Pair}
-use Rattle.script_grammar.specs.script_claims.declared.claim.Claim.{Claim}
-use Rattle.script_grammar.specs.script_claims.declared.claim.Claim.TheVariants.{Bounded, Asked}
-use Rattle.script_grammar.specs.script_claims.declared.claim.Claim.TheVariants.{Relative}
-use Rattle.script_grammar.specs.script_claims.declared.claim.Claim.TheVariants.{RelativeAsked}
-use Rattle.script_grammar.specs.script_claims.declared.claim.Claim.TheVariants.{Multiple, Above}
-use Rattle.script_grammar.specs.script_claims.declared.claim.Claim.TheVariants.{Below}
-use Rattle.rewrite_hints.specs.script_hints.declared.hint.Hint.{Hint}
+use Rattle.pair_closure.specs.Closure.{Pair}
+use Rattle.script_claims.specs.declared.claim.Claim.{Claim}
+use Rattle.script_claims.specs.declared.claim.Claim.TheVariants.{Bounded, Asked, Relative}
+use Rattle.script_claims.specs.declared.claim.Claim.TheVariants.{RelativeAsked, Multiple, Above}
+use Rattle.script_claims.specs.declared.claim.Claim.TheVariants.{Below}
+use Rattle.script_hints.specs.declared.hint.Hint.{Hint}
 use Rattle.script_grammar.specs.Spells.{View}
 
 -- the sides of a node that is a difference

@@ -1,16 +1,16 @@
 -- The universe of a script.
 use Rattle.std.specs.Prelude.{◌≡◌, List, map, refl}
-use Rattle.script_grammar.specs.script_claims.declared.claim.Claim.{Claim}
-use Rattle.script_grammar.specs.script_claims.Facts.{goal_of, facts_of}
+use Rattle.pair_closure.specs.Reached.{Has, IsListOf}
+use Rattle.pair_closure.specs.Closure.{IsClosure, IsExpression, AreTooMany}
+use Rattle.script_claims.specs.declared.claim.Claim.{Claim}
+use Rattle.script_claims.specs.Facts.{goal_of, facts_of}
 use Rattle.script_grammar.specs.Spells.{View}
 use Rattle.script_grammar.specs.Names.{NamesNodes}
-use Rattle.rule_universe.specs.pair_closure.Reached.{Has, IsListOf}
-use Rattle.rule_universe.specs.pair_closure.Closure.{IsClosure, IsExpression, AreTooMany}
-use Rattle.rewrite_hints.specs.Marks.{AreRows}
-use Rattle.rule_universe.specs.rule_instances.Instances.{IsInstance}
-use Rattle.rule_universe.specs.rule_instances.InOrder.{instance_list}
+use Rattle.rule_instances.specs.Instances.{IsInstance}
+use Rattle.rule_instances.specs.InOrder.{instance_list}
 use Rattle.rule_universe.specs.Worlds.{World}
 use Rattle.rule_universe.specs.Assumed.{assuming, HaveSlots}
+use Rattle.rewrite_hints.specs.Marks.{AreRows}
 use Rattle.universe.specs.Starts.{starting_pairs}
 use Rattle.universe.specs.Cases.{AreHypotheses}
 

@@ -2,7 +2,7 @@
 
 ghost use Rattle.universe.specs.Universes.{HypothesesHaveSlots, UniversesAreOne};
 
-use rule_universe::closures_are_one;
+use pair_closure::closures_are_one;
 
 /// Nothing is done. The clause tells a caller that a script has one universe in which these claims
 /// are assumed.

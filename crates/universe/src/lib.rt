@@ -1,8 +1,6 @@
 //! The universe of a script: the expressions, pairs and rule instances that derivations may use.
 #![tactic(auto)]
 
-// What callers name of the crates below.
-pub use rewrite_hints::rows_are_true;
 
 mod laws;
 mod marks;
@@ -11,6 +9,7 @@ mod world;
 
 pub use laws::{hypotheses_have_slots, universes_are_one};
 pub use marks::classify;
-pub use rule_universe::{Goal, Instance, Universe};
+pub use facts::Instance;
+pub use rule_universe::Universe;
 pub use starts::starting_pairs;
 pub use world::{UniverseFault, assume, build};

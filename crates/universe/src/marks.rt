@@ -4,7 +4,7 @@ ghost use Rattle.std.specs.Prelude.{IfOk};
 ghost use Rattle.rewrite_hints.specs.Marks.{AreMarks};
 
 use rewrite_hints::marks_of;
-use rule_universe::HintMark;
+use facts::HintMark;
 use script_grammar::Script;
 use std::alloc::{AllocError, Global};
 

@@ -2,17 +2,20 @@
 
 ghost use Rattle.std.specs.Prelude.{◌≡◌, [], List, Err, IfOk, OnOk, OnErr};
 ghost use Rattle.std.specs.List.{AllByRecursion};
-ghost use Rattle.script_grammar.specs.script_claims.declared.claim.Claim.{Claim};
-ghost use Rattle.script_grammar.specs.script_claims.Facts.{HasNormalBounds, facts_of};
-ghost use Rattle.universe.specs.Cases.{AreHypotheses};
+ghost use Rattle.script_claims.specs.declared.claim.Claim.{Claim};
+ghost use Rattle.script_claims.specs.Facts.{HasNormalBounds, facts_of};
 ghost use Rattle.rule_universe.specs.Assumed.{assuming};
+ghost use Rattle.universe.specs.Cases.{AreHypotheses};
 ghost use Rattle.universe.specs.Universes.{IsUniverse, IsTooLarge};
 ghost use Rattle.universe.specs.declared.world.UniverseFault.TheVariants as UniverseFault;
 
 use crate::starts::starting_pairs;
 use rewrite_hints::rows_of;
-use rule_universe::{Closure, ClosureFault, Universe, closure_of, instances_of};
-use script_grammar::{Claim, Script, facts_of, goals_of};
+use pair_closure::{Closure, ClosureFault, closure_of};
+use rule_universe::Universe;
+use rule_instances::instances_of;
+use script_claims::{Claim, facts_of, goals_of};
+use script_grammar::Script;
 use std::alloc::{AllocError, Global};
 
 /// Why there is no universe.

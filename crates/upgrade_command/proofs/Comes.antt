@@ -1,24 +1,17 @@
 -- How a run of `upgrade` ends, by what came of the certificate.
-use Rattle.std.specs.Prelude.{◌≡◌, ◌≢◌, ◌<◌, ◌⊎◌, List, Option, Some, None, Result, Ok}
-use Rattle.std.specs.Prelude.{Err, IsErrOf, length}
+use Rattle.std.specs.Prelude.{◌≡◌, ◌≢◌, ◌<◌, ◌⊎◌, List, Option, Some, None, Result, Ok, Err}
+use Rattle.std.specs.Prelude.{IsErrOf, length}
 use Rattle.std.proofs.Common.{inl, inr, refl, sym, ap, subst, ◌∙◌, arith}
 use Rattle.cert_bytes.specs.declared.fault.CertFault.{CertFault}
 use Rattle.cert_bytes.specs.declared.item.Item.{Item}
 use Rattle.cert_bytes.specs.declared.style.Seen.{Seen}
 use Rattle.cert_bytes.specs.Certificates.{AreCertificate}
 use Rattle.cert_bytes.specs.ReadOut.{HasFault}
-use Rattle.command_runs.specs.whole_texts.Pieces.{HoldsAll as HoldsWhole, HoldsFront as HoldsPart}
-use Rattle.cert_upgrade.specs.Answers.{ComesOf, ComesOfAny, MayBecome, IsTooLong}
-use Rattle.cert_upgrade.specs.Files.{Holds, HoldsFront}
-use Rattle.cert_upgrade.specs.Items.{ItemsAreOne}
-use Rattle.cert_upgrade.specs.Spelled.{most}
 use Rattle.cert_bytes.specs.Spelling.{certificate_of}
 use Rattle.cert_bytes.specs.Styles.{seen_in}
-use Rattle.cert_upgrade.specs.declared.stop.UpgradeStop.{UpgradeStop}
-use Rattle.cert_upgrade.specs.declared.stop.UpgradeStop.TheVariants as stop
 use Rattle.command_line.specs.Upgrade.{AskedUpgrade}
-use Rattle.report.specs.Certificates.{cert_fault_line, new_too_long_line, upgraded_line}
-use Rattle.command_runs.specs.whole_texts.declared.read.ReadStop.TheVariants as reading
+use Rattle.whole_texts.specs.Pieces.{HoldsAll as HoldsWhole, HoldsFront as HoldsPart}
+use Rattle.whole_texts.specs.declared.read.ReadStop.TheVariants as reading
 use Rattle.command_runs.specs.Ends.{IsPutBy, IsLinePutBy, IsStopPutBy, IsOnce, put_runs, line_runs}
 use Rattle.command_runs.specs.Ends.{stop_runs, starved_runs, unwritten_runs, exhausted_runs}
 use Rattle.command_runs.specs.Ends.{all_kept, left_so, others_kept, run_by}
@@ -28,8 +21,14 @@ use Rattle.command_runs.specs.Runs.{Bytes, Run, IsKept, IsSilent, ReadFailed, Wr
 use Rattle.command_runs.specs.Statuses.{read_fault_line}
 use Rattle.command_runs.specs.declared.status.Status.{Status}
 use Rattle.command_runs.specs.declared.status.Status.TheVariants as status
-use Rattle.upgrade_command.specs.Command.{MayBecomeOf, UpgradeFate}
-use Rattle.upgrade_command.specs.Command.{MayRewrite, IsUpgradeRun}
+use Rattle.report.specs.Certificates.{cert_fault_line, new_too_long_line, upgraded_line}
+use Rattle.cert_upgrade.specs.Answers.{ComesOf, ComesOfAny, MayBecome, IsTooLong}
+use Rattle.cert_upgrade.specs.Files.{Holds, HoldsFront}
+use Rattle.cert_upgrade.specs.Items.{ItemsAreOne}
+use Rattle.cert_upgrade.specs.Spelled.{most}
+use Rattle.cert_upgrade.specs.declared.stop.UpgradeStop.{UpgradeStop}
+use Rattle.cert_upgrade.specs.declared.stop.UpgradeStop.TheVariants as stop
+use Rattle.upgrade_command.specs.Command.{MayBecomeOf, UpgradeFate, MayRewrite, IsUpgradeRun}
 
 -- ---- what a file holds
 whole_of : (bytes : Bytes) (old new : Option Bytes) → Holds bytes old new → HoldsWhole bytes old new

@@ -4,16 +4,16 @@ use Rattle.cert_bytes.specs.declared.fault.CertFault.{CertFault}
 use Rattle.cert_bytes.specs.declared.item.Item.{Item}
 use Rattle.cert_bytes.specs.Certificates.{AreCertificate}
 use Rattle.cert_bytes.specs.ReadOut.{HasFault}
-use Rattle.cert_upgrade.specs.Answers.{MayBecome, IsTooLong}
 use Rattle.cert_bytes.specs.Spelling.{certificate_of}
 use Rattle.cert_bytes.specs.Styles.{seen_in}
 use Rattle.command_line.specs.Upgrade.{AskedUpgrade}
-use Rattle.report.specs.Certificates.{cert_fault_line, new_too_long_line, upgraded_line}
 use Rattle.command_runs.specs.Fates.{Left, Fate, OrUnread, IsRunOf, MayWrite, WhereTold}
 use Rattle.command_runs.specs.Fates.Left.{Kept, Whole, Begun}
 use Rattle.command_runs.specs.Runs.{Bytes, Told, Run}
 use Rattle.command_runs.specs.declared.status.Status.{Status}
 use Rattle.command_runs.specs.declared.status.Status.TheVariants as status
+use Rattle.report.specs.Certificates.{cert_fault_line, new_too_long_line, upgraded_line}
+use Rattle.cert_upgrade.specs.Answers.{MayBecome, IsTooLong}
 
 -- These are the items that the bytes spell, whose spelling in version 2 isn't too long; where the
 -- bytes aren't told, some certificate's items.

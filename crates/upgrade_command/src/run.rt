@@ -1,15 +1,16 @@
 // A run of `upgrade`.
 ghost use Rattle.std.specs.Prelude.{◌≢◌};
 ghost use Rattle.command_line.specs.Upgrade.{upgrade_of};
-ghost use Rattle.report.specs.Certificates.{cert_fault_line, upgraded_line};
 ghost use Rattle.command_runs.specs.Ends.{IsLinePut};
 ghost use Rattle.command_runs.specs.Runs.{seen, run};
+ghost use Rattle.report.specs.Certificates.{cert_fault_line, upgraded_line};
 ghost use Rattle.upgrade_command.specs.Command.{IsUpgradeRun};
 
 use cert_bytes::{CertFault, Seen};
 use cert_upgrade::{UpgradeStop, items_are_one, upgrade};
 use command_line::UpgradeRequest;
-use command_runs::{ReadStop, Status, print, print_stop};
+use whole_texts::ReadStop;
+use command_runs::{Status, print, print_stop};
 use fx_edge::{Folder, Sink};
 use report::certificates::{cert_fault_line, new_too_long_line, upgraded_line};
 use std::alloc::Global;

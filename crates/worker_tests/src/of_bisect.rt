@@ -1,10 +1,10 @@
 //! Answers of trees whose boxes are open on two ways down, by one thread.
 ghost use Rattle.std.specs.Prelude.{◌≡◌, ◌≤◌, ℕ, List, length, IfOk};
+ghost use Rattle.script_hints.specs.Few.{HaveFewPieces};
+ghost use Rattle.box_tree.specs.Plans.{cut_at};
 ghost use Rattle.bisect.specs.Answers.{IsAnswer};
 ghost use Rattle.bisect.specs.Examples.{two_ways_open};
 ghost use Rattle.bisect.specs.Trees.{tree_of};
-ghost use Rattle.box_tree.specs.Plans.{cut_at};
-ghost use Rattle.script_hints.specs.Few.{HaveFewPieces};
 
 use crate::tree::{NONE, World, X, two_ways, written};
 use bisect::{Outcome, run_alone};

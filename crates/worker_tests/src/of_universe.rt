@@ -3,7 +3,8 @@ use script_grammar::{Script, parse};
 use std::alloc::Global;
 use std::process::Abort;
 use std::test::Fail;
-use universe::{Universe, UniverseFault, build};
+use rule_universe::Universe;
+use universe::{UniverseFault, build};
 
 type Sizes = (u16, usize, usize);
 

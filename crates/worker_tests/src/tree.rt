@@ -1,11 +1,11 @@
 //! A tree of 15 boxes, which is open on two ways down.
 ghost use Rattle.std.specs.Prelude.{◌≡◌, ◌≤◌, ℕ, List, Some};
-ghost use Rattle.bisect.specs.Examples.{is_front, two_ways_open};
-ghost use Rattle.bisect.specs.declared.settler.State.{State};
+ghost use Rattle.literal_order.specs.Values.{IsWritten};
 ghost use Rattle.box_tree.specs.declared.cut.Cut.{Cut};
 ghost use Rattle.box_tree.specs.declared.cut.Cut.TheVariants.{Bottom};
 ghost use Rattle.box_tree.specs.Plans.{cut_at};
-ghost use Rattle.literal_order.specs.Values.{IsWritten};
+ghost use Rattle.bisect.specs.Examples.{is_front, two_ways_open};
+ghost use Rattle.bisect.specs.declared.settler.State.{State};
 
 use bisect::{Posted, Settler, State, Verdict};
 use box_tree::Plan;

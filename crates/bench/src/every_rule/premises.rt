@@ -2,7 +2,9 @@
 
 use super::rows::Row;
 use crate::numbers::Draw;
-use facts::{Dyadic, End, Fact, FixPlace, Interval, RelativeError, Size, Slot};
+use dyadic::{Dyadic, End};
+use facts::{Fact, FixPlace, RelativeError, Size, Slot};
+use interval::Interval;
 use std::alloc::{AllocError, Global};
 
 // On which side of 0 an interval lies.

@@ -1,11 +1,8 @@
 //! The slots of each rule's premises and conclusion.
 
-use super::nodes::{
-    CUT_ERROR, DIFFERENCE, ERROR, HALF, ITSELF, LITERAL, MINUS_X, MINUS_Z, OF_DIFFERENCES,
-    OF_NEGATIONS, OF_PRODUCTS, OF_SUMS, ONE, PRODUCT, QUOTIENT, ROUNDED, SECOND_PRODUCT,
-    SECOND_QUOTIENT, SECOND_SUM, SHARE, SIZE_OF_X, SQUARE, SUM, W, X, X_Z, Y, Y_W, Y_Z, Z, Z_Y,
-};
-use facts::Slot::{self, Abs, Bnd, Fix, Nzr, Rel, Void};
+use super::nodes::{CUT_ERROR, DIFFERENCE, ERROR, HALF, ITSELF, LITERAL, MINUS_X, MINUS_Z, OF_DIFFERENCES, OF_NEGATIONS, OF_PRODUCTS, OF_SUMS, ONE, PRODUCT, QUOTIENT, ROUNDED, SECOND_PRODUCT, SECOND_QUOTIENT, SECOND_SUM, SHARE, SIZE_OF_X, SQUARE, SUM, W, X, X_Z, Y, Y_W, Y_Z, Z, Z_Y};
+use facts::Slot;
+use facts::Slot::{Abs, Bnd, Fix, Nzr, Rel, Void};
 
 /// A rule's number, the slots of its premises, and that of its conclusion.
 pub type Row = (u8, &'static [Slot], Slot);

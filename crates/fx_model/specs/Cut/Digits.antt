@@ -1,7 +1,7 @@
 -- Cuts with fewer digits, and cuts of quotients.
+use lib.Dec.{T, ltb, ltb→lt, nltb→le}
 use Rattle.std.specs.Prelude.{◌≡◌, ℕ, ℤ, pos, ◌+ℤ◌, ◌*◌, ◌+◌, ◌≤◌, ◌<◌, ◌^◌, Bool, true, false}
 use Rattle.std.specs.Prelude.{◌||◌, not, refl}
-use lib.Dec.{T, ltb, ltb→lt, nltb→le}
 use Rattle.std.proofs.Common.{arith, sym, ap, ◌∙◌, subst}
 use Rattle.std.proofs.lemmas.Int.{ints}
 use Rattle.fx_model.specs.Fraction.{Fraction, ◌*ℚ◌, ◌≤ℚ◌, ◌<ℚ◌, zero_ℚ, lt_le, le_lt_trans}

@@ -1,12 +1,12 @@
 -- A number that is cut off below a power of two, and that no grid number lies strictly between a
 -- full cut and the next.
+use borrow.Author.Differences.{up, down, product_is}
 use Rattle.std.specs.Prelude.{◌≡◌, ◌⊎◌, ℕ, ℤ, pos, negsuc, ◌+ℤ◌, ◌*ℤ◌, ◌≤ℤ◌, ◌<ℤ◌, ◌*◌, ◌+◌, ◌-◌}
 use Rattle.std.specs.Prelude.{◌≤◌, ◌<◌, ◌^◌, Bool, true, false, refl}
 use Rattle.std.proofs.Common.{arith, sym, ap, ◌∙◌, subst, ⊎_elim}
 use Rattle.std.proofs.Math.Nat.{mul-le-mul_left}
 use Rattle.std.proofs.lemmas.Nat.{pow_pos, pow-add}
 use Rattle.std.proofs.lemmas.Int.{ints, by_lt_z}
-use borrow.Author.Differences.{up, down, product_is}
 use Rattle.fx_model.specs.Fraction.{Fraction, ◌≤ℚ◌, ◌<ℚ◌, le_refl, lt_le, lt_not, le_lt_trans}
 use Rattle.fx_model.specs.Fraction.{lt_le_trans, le_or_lt}
 use Rattle.fx_model.specs.Powers.{scaled, scaled-le, scaled-lt, scaled-lt_out, scaled-shift}

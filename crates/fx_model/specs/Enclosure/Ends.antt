@@ -1,8 +1,8 @@
 -- Ends that make an interval.
+use mathlib.Core.HLevel.{⊥_prop, Unit-prop}
 use Rattle.std.specs.Prelude.{⊤}
 use Rattle.fx_model.specs.Fraction.{Fraction, ◌≤ℚ◌, zero_ℚ, Le-prop, le_trans, le_refl}
 use Rattle.fx_model.specs.Grid.{Bound, Below, At, Above}
-use mathlib.Core.HLevel.{⊥_prop, Unit-prop}
 use Rattle.fx_model.specs.Enclosure.Sets.{IsFrom, IsUpTo}
 
 -- ---- ends that make an interval

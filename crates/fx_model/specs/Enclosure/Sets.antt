@@ -1,7 +1,6 @@
 -- Intervals, the exact results of operations on their fractions, and the best outward interval of a
 -- set of fractions.
-use Rattle.std.specs.Prelude.{◌≡◌, ⊤}
-use Rattle.std.specs.Prelude.{ℤ}
+use Rattle.std.specs.Prelude.{◌≡◌, ⊤, ℤ}
 use Rattle.fx_model.specs.Fraction.{Fraction, ◌+ℚ◌, ◌-ℚ◌, ◌*ℚ◌, ◌/ℚ◌, neg_ℚ, abs_ℚ, ◌≤ℚ◌, zero_ℚ}
 use Rattle.fx_model.specs.Powers.{IsMultiple}
 use Rattle.fx_model.specs.Grid.{Bound, Below, At, Above, IsOnGrid}

@@ -1,9 +1,9 @@
 -- The enclosure of the sums, by the ends of the parts.
 use Rattle.std.specs.Prelude.{◌≡◌}
-use Rattle.fx_model.specs.Fraction.{Fraction, ◌+ℚ◌, ◌-ℚ◌, ◌≤ℚ◌, one_ℚ, le_trans, le_refl}
-use Rattle.fx_model.specs.Fraction.{lt_not, add-le-add, under, over, add_comm}
-use Rattle.fx_model.specs.Grid.{Bound, Below, At, Above, IsDown, IsUp}
 use Rattle.std.proofs.Common.{sym, subst, refl, ◌∙◌}
+use Rattle.fx_model.specs.Fraction.{Fraction, ◌+ℚ◌, ◌-ℚ◌, ◌≤ℚ◌, one_ℚ, le_trans, le_refl, lt_not}
+use Rattle.fx_model.specs.Fraction.{add-le-add, under, over, add_comm}
+use Rattle.fx_model.specs.Grid.{Bound, Below, At, Above, IsDown, IsUp}
 use Rattle.fx_model.specs.Enclosure.Sets.{Range, IsFrom, IsUpTo, Lies, IsInfimum, IsSupremum, Sums}
 use Rattle.fx_model.specs.Enclosure.Sets.{IsSum}
 use Rattle.fx_model.specs.Enclosure.Attained.{infimum_at, supremum_at}

@@ -1,7 +1,7 @@
 -- Worked rows of values: x * y and x / (y - y) at x = 2, y = 3, and the literal 12.5.
+use mathlib.Core.Quot.{sound}
 use Rattle.std.specs.Prelude.{◌≡◌, ℕ, pos, negsuc, Some, None, [], ◌∷◌, if◌then◌else◌, refl}
 use Rattle.std.proofs.Common.{ap, ◌∙◌, lit<}
-use mathlib.Core.Quot.{sound}
 use Rattle.fx_model.specs.Fraction.{Ratio, Same, of_ratio, ◌*ℚ◌, ◌/ℚ◌, inverse_ℚ, zero_ℚ}
 use Rattle.fx_model.specs.Fraction.{is_zero-zero, mul_ratio, mul-mk, inverse_ratio, inverse-mk}
 use Rattle.fx_model.specs.Fraction.{add-neg}

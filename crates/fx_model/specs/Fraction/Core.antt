@@ -5,13 +5,13 @@ pub mod Order
 pub mod Laws
 pub mod Floor
 pub mod Inverse
-use Rattle.std.specs.Prelude.{◌≡◌, ℕ, ◌*◌, ◌+◌, ◌-◌, ◌/◌, ◌≤◌, ◌<◌, Bool, true, false}
-use Rattle.std.specs.Prelude.{IsTrue, IsFalse, not, refl}
-use Rattle.std.proofs.Common.{arith, sym, ap, lit<}
-use Rattle.std.proofs.Math.Nat.{mul-le-mul_right}
 use mathlib.Core.Quot.{Quot, mk, sound, ind, lift, Quot-set}
 use mathlib.Core.Bool.{Bool-set}
 use lib.Dec.{T, leb, le→leb, leb→le}
+use Rattle.std.specs.Prelude.{◌≡◌, ℕ, ◌*◌, ◌+◌, ◌-◌, ◌/◌, ◌≤◌, ◌<◌, Bool, true, false, IsTrue}
+use Rattle.std.specs.Prelude.{IsFalse, not, refl}
+use Rattle.std.proofs.Common.{arith, sym, ap, lit<}
+use Rattle.std.proofs.Math.Nat.{mul-le-mul_right}
 
 -- A fraction as it is written, (plus - minus) / den. The numerator is a difference of two natural
 -- numbers, so that no sign occurs.

@@ -2,7 +2,7 @@ use Rattle.std.specs.Prelude.{List}
 use Rattle.std.proofs.Common.{subst}
 use Rattle.fx_model.specs.declared.ExprId.{ExprId}
 use Rattle.fx_model.specs.declared.Node.{Node}
-use Rattle.settler.specs.rule_universe.expr_dag.Nodes.{IsAt, IsLawful}
+use Rattle.expr_dag.specs.Nodes.{IsAt, IsLawful}
 use Rattle.answer_certificates.proofs.room.script_has_room.Goals as goal
 
 abbrev AreLawful : List Node → Type 0

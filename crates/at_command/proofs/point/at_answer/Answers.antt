@@ -1,5 +1,5 @@
 use Rattle.std.proofs.Common.{ℕ, List, Err, IfOk, ap, subst}
-use Rattle.point_text.specs.script_grammar.Spells.{View}
+use Rattle.script_grammar.specs.Spells.{View}
 use Rattle.at_command.specs.Told.{AtPrints}
 use Rattle.at_command.proofs.point.at_answer.Goals as goal
 

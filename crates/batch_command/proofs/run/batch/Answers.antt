@@ -1,8 +1,8 @@
 use Rattle.std.proofs.Common.{◌≡◌, None, Some, arith, inl, map, refl, rules, string_bytes}
 use Rattle.fx_edge.specs.Outside.{Rose}
-use Rattle.whole_texts.specs.Texts.{IsText}
-use Rattle.name_list.specs.Lists.{IsFaultOf, lines_of}
 use Rattle.command_line.specs.Batch.{batch_of}
+use Rattle.name_list.specs.Lists.{IsFaultOf, lines_of}
+use Rattle.whole_texts.specs.Texts.{IsText}
 use Rattle.batch_command.proofs.Listed.{short_text, fault_printed, scripts_printed}
 use Rattle.batch_command.proofs.run.batch.Goals as goal
 

@@ -1,5 +1,5 @@
 use Rattle.std.proofs.Common.{[], ◌∷◌, sym, subst, refl}
-use Rattle.saturate.specs.derivation.Known.{IsTableAt}
+use Rattle.derivation.specs.Known.{IsTableAt}
 use Rattle.saturate.specs.Tables.{fact_at}
 use Rattle.saturate.specs.Universes.{setting_of}
 use Rattle.saturate.specs.Closed.{IsMarked}

@@ -1,6 +1,6 @@
 use Rattle.std.proofs.Common.{sym, subst}
 use Rattle.std.proofs.lemmas.List.Elements.{recursion_from_All}
-use Rattle.script_checker.specs.script_claims.Facts.{HasNormalBounds}
+use Rattle.script_claims.specs.Facts.{HasNormalBounds}
 use Rattle.universe.specs.Cases.{AreHypotheses, all_are}
 use Rattle.bench.proofs.universes.assumed_universe.Goals as goal
 

@@ -1,6 +1,6 @@
 use Rattle.std.proofs.Common.{◌≡◌, ◌+◌, ◌++◌, ◌∷◌, [], ℕ, List, sym, ap, ◌∙◌, arith}
 use Rattle.std.proofs.lemmas.List.FromFn.{map-range_with_len_more}
-use Rattle.box_tree.specs.goals.declared.line.Line.{Line}
+use Rattle.goals.specs.declared.line.Line.{Line}
 use Rattle.bisect.specs.Gathered.{line_of, lines_of}
 use Rattle.bisect.specs.declared.outcome.Leaf.{Leaf}
 use Rattle.bisect.proofs.lines.lines_of.Goals as goal

@@ -2,10 +2,10 @@ use Rattle.std.proofs.Common.{◌≡◌, ℕ, ◌+◌, List, [], ◌∷◌, ◌+
 use Rattle.std.proofs.Common.{sym, ap, ◌∙◌, rules, arith}
 use Rattle.std.specs.List.{sum_by}
 use Rattle.crossbeam_deque.specs.Handles.{worker_view, worker_port}
+use Rattle.std.proofs.lemmas.List.Elements.{All-push}
 use Rattle.box_deques.specs.declared.rule.View.{View}
 use Rattle.box_deques.specs.Rule.{Belongs}
 use Rattle.box_deques.proofs.Steps.{takes, finds}
-use Rattle.std.proofs.lemmas.List.Elements.{All-push}
 use Rattle.box_deques.proofs.Lists.{map_snoc}
 use Rattle.box_deques.proofs.Emptied.{at_end, at_take}
 use Rattle.box_deques.proofs.close.drain.Goals as goal

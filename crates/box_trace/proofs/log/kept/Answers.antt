@@ -1,11 +1,11 @@
 use Rattle.std.specs.Prelude.{◌≡◌, Option, Some, None, IfNone, IfSome, refl}
 use Rattle.std.proofs.Common.{sym, subst}
 use Rattle.facts.specs.declared.fact.Fact.{Fact}
-use Rattle.saturate.specs.derivation.Exists.{joined}
+use Rattle.derivation.specs.Exists.{joined}
+use Rattle.tree_certificates.specs.Coming.{with_by}
 use Rattle.box_trace.specs.declared.known.Cited.{Cited}
 use Rattle.box_trace.specs.Tables.{fact_of, number_of, number_or}
 use Rattle.box_trace.proofs.log.kept.Goals as goal
-use Rattle.tree_certificates.specs.Coming.{with_by}
 
 none_map : {P Q : Type 0} (r : Option Fact) → IfNone r P → (P → Q) → IfNone r Q
 none_map None p f = f p

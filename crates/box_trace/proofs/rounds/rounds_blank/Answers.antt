@@ -2,8 +2,8 @@ use Rattle.std.specs.Prelude.{◌^◌}
 use Rattle.std.proofs.Common.{◌≡◌, ◌<◌, ◌+◌, ◌*◌, None, true, false, length, subst, sym, ◌∙◌, arith}
 use Rattle.facts.specs.declared.fact.Fact.TheVariants as fact
 use Rattle.facts.specs.declared.fact.Slot.TheVariants as slot
-use Rattle.saturate.specs.derivation.Rounds.{InTable, IsBestFrom}
-use Rattle.saturate.specs.derivation.Heights.{best_start, best_void}
+use Rattle.derivation.specs.Rounds.{InTable, IsBestFrom}
+use Rattle.derivation.specs.Heights.{best_start, best_void}
 use Rattle.saturate.specs.Universes.{setting_of}
 use Rattle.box_trace.specs.declared.log.Log.{Log}
 use Rattle.box_trace.specs.Tables.{known_at, HasRows}

@@ -1,8 +1,8 @@
 use Rattle.std.specs.Prelude.{map}
 use Rattle.std.proofs.Common.{ap, ◌∙◌}
+use Rattle.saturate.specs.Answered.{ok_map}
 use Rattle.box_trace.specs.Tables.{place_in}
 use Rattle.box_trace.proofs.scan.cite.Goals as goal
-use Rattle.saturate.specs.Answered.{ok_map}
 
 pub numbers_of-requires : goal.numbers_of-requires
 numbers_of-requires c = (c.premises-placed.ensures c.instance_at-instance.result.now

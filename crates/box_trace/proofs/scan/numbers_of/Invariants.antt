@@ -1,5 +1,5 @@
 use Rattle.std.proofs.Common.{◌≡◌, map, take}
-use Rattle.saturate.specs.rule_universe.declared.placed.Placed.{Placed}
+use Rattle.rule_universe.specs.declared.placed.Placed.{Placed}
 use Rattle.box_trace.specs.Tables.{place_in}
 use Rattle.box_trace.proofs.scan.numbers_of.Given as goal
 

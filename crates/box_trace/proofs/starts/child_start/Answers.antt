@@ -1,9 +1,9 @@
 use Rattle.std.proofs.Common.{ap, subst, ◌∙◌, ℕ}
 use Rattle.facts.specs.declared.fact.Fact.{Fact}
 use Rattle.facts.specs.declared.fact.Fact.TheVariants as fact
-use Rattle.saturate.specs.derivation.Derivations.{At}
-use Rattle.saturate.specs.derivation.Rounds.{Improves}
-use Rattle.tree_certificates.specs.cert_checker.declared.given.Given.TheVariants as given
+use Rattle.derivation.specs.Derivations.{At}
+use Rattle.derivation.specs.Rounds.{Improves}
+use Rattle.cert_checker.specs.declared.given.Given.TheVariants as given
 use Rattle.box_trace.specs.Tables.{known_at}
 use Rattle.box_trace.specs.declared.known.Known.{Known}
 use Rattle.box_trace.specs.declared.log.Log.{Log}

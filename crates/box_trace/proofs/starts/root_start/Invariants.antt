@@ -1,6 +1,6 @@
 use Rattle.std.proofs.Common.{length, ◌+◌}
-use Rattle.saturate.specs.derivation.Known.{IsGiven}
-use Rattle.saturate.specs.derivation.Begun.{IsGathered, FirstHypotheses, FirstLines}
+use Rattle.derivation.specs.Known.{IsGiven}
+use Rattle.derivation.specs.Begun.{IsGathered, FirstHypotheses, FirstLines}
 use Rattle.saturate.specs.Universes.{setting_of}
 use Rattle.box_trace.specs.Tables.{known_at}
 use Rattle.box_trace.specs.Boxes.{BeginsWithin}

@@ -1,6 +1,7 @@
 use Rattle.std.proofs.Common.{inl, inr}
-use Rattle.saturate.specs.derivation.Known.{IsTableAt}
+use Rattle.derivation.specs.Known.{IsTableAt}
 use Rattle.saturate.specs.Universes.{setting_of}
+use Rattle.saturate.specs.Answered.{ok_map}
 use Rattle.box_trace.specs.Tables.{known_at}
 use Rattle.box_trace.proofs.Answered.{ok_both}
 use Rattle.box_trace.proofs.Given.{child_box, root_box}
@@ -8,7 +9,6 @@ use Rattle.box_trace.proofs.Steps.{own_root_steps, own_steps_below, own_rounds, 
 use Rattle.box_trace.proofs.tracing.log_at.Goals as goal
 use Rattle.box_trace.proofs.tracing.log_at.Goals.{in_default-via-in-Some+in_default}
 use Rattle.box_trace.proofs.tracing.log_at.Goals.{in_default-via-in_default}
-use Rattle.saturate.specs.Answered.{ok_map}
 
 pub returns-in-Some-Some-clause-table : goal.returns-in-Some-Some-clause-table
 returns-in-Some-Some-clause-table c =

@@ -4,19 +4,19 @@ use Rattle.std.specs.List.{Contains}
 use Rattle.std.proofs.lemmas.Option.{slice_get_read}
 use Rattle.facts.specs.declared.fact.Slot.TheVariants as slot
 use Rattle.facts.specs.Order.{slot_of}
+use Rattle.rule_universe.specs.Sizes.{beyond_four}
+use Rattle.saturate.specs.Lists.{none_in}
 use Rattle.box_trace.specs.Tables.{known_at}
 use Rattle.box_trace.specs.Scans.{held, ends_in}
 use Rattle.box_trace.proofs.Scanned.{IsWritten, written_none, written_all}
 use Rattle.box_trace.proofs.Came.{begin_ahead, written_ahead, written_listed, written_placed}
 use Rattle.box_trace.proofs.Came.{written_few, written_adds, goes_on_both, most_bound, most_more}
 use Rattle.box_trace.proofs.Came.{not_void, round_void}
-use Rattle.saturate.specs.rule_universe.Sizes.{beyond_four}
 use Rattle.box_trace.proofs.Added.{adds_none, adds_slack}
 use Rattle.box_trace.proofs.Beyond.{beyond_below, beyond_most, beyond_next}
 use Rattle.box_trace.proofs.writing.write.Goals as goal
 use Rattle.box_trace.proofs.writing.write.Goals.{in-Some+in_ok-write_slot+else-is_void+in_ok-push}
 use Rattle.box_trace.proofs.writing.write.Goals.{in_default}
-use Rattle.saturate.specs.Lists.{none_in}
 
 pub loop-p-init : goal.loop-p-init
 loop-p-init c =

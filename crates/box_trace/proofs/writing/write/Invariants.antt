@@ -1,9 +1,9 @@
 use Rattle.std.proofs.Common.{◌≡◌, ◌≤◌, ◌+◌, ◌*◌, length}
 use Rattle.std.specs.List.{Contains}
-use Rattle.saturate.specs.derivation.Rounds.{IsAhead}
-use Rattle.saturate.specs.derivation.Changes.{IsListed}
-use Rattle.saturate.specs.rule_universe.declared.placed.Placed.{Placed}
-use Rattle.saturate.specs.rule_universe.Placed.{slots_of, IsPlaced}
+use Rattle.derivation.specs.Rounds.{IsAhead}
+use Rattle.derivation.specs.Changes.{IsListed}
+use Rattle.rule_universe.specs.declared.placed.Placed.{Placed}
+use Rattle.rule_universe.specs.Placed.{slots_of, IsPlaced}
 use Rattle.saturate.specs.Universes.{setting_of}
 use Rattle.tree_certificates.specs.Writing.{IsWritable}
 use Rattle.box_trace.specs.Tables.{known_at, HasRows}

@@ -1,5 +1,5 @@
 use Rattle.std.proofs.Common.{List, ap, sym, ◌∙◌, arith}
-use Rattle.script_hints.specs.dyadic.declared.number.Dyadic.{Dyadic}
+use Rattle.dyadic.specs.declared.number.Dyadic.{Dyadic}
 use Rattle.box_tree.specs.Points.{asked_points, piece_of}
 use Rattle.box_tree.proofs.Staying.{none_stay, stays, stays_not, first_piece, later_piece}
 use Rattle.box_tree.proofs.points.+piece_from.Goals as goal

@@ -1,5 +1,5 @@
 use Rattle.std.proofs.Common.{List, sym, ap, ◌∙◌, subst}
-use Rattle.script_hints.specs.dyadic.declared.number.Dyadic.{Dyadic}
+use Rattle.dyadic.specs.declared.number.Dyadic.{Dyadic}
 use Rattle.box_tree.specs.declared.range.SplitRange.{SplitRange}
 use Rattle.box_tree.specs.Points.{piece_of}
 use Rattle.box_tree.specs.Ranges.{IsOrdered}

@@ -1,6 +1,6 @@
 use Rattle.std.proofs.Common.{◌≡◌, ◌<◌, ◌++◌, [], ◌∷◌, List, length, take, sym, ◌∙◌, arith}
 use Rattle.std.proofs.Common.{append-nil}
-use Rattle.script_hints.specs.fx_model.declared.ExprId.{ExprId}
+use Rattle.fx_model.specs.declared.ExprId.{ExprId}
 use Rattle.script_claims.specs.declared.claim.Claim.{Claim}
 use Rattle.box_tree.specs.declared.range.SplitRange.{SplitRange}
 use Rattle.box_tree.specs.Root.{split_ranges}

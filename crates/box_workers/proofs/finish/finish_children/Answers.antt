@@ -1,7 +1,7 @@
 use Rattle.std.proofs.Common.{ℕ, List, arith, sym, subst, ◌∙◌}
+use Rattle.box_tree.specs.Paths.{IsPathOf}
+use Rattle.box_tree.specs.Pieces.{piece_count}
 use Rattle.bisect.specs.Trees.{tree_of}
-use Rattle.accounts.specs.box_tree.Paths.{IsPathOf}
-use Rattle.accounts.specs.box_tree.Pieces.{piece_count}
 use Rattle.box_workers.proofs.Paths.{child_path}
 use Rattle.box_workers.proofs.Finishing.{child_step, child_over}
 use Rattle.box_workers.proofs.finish.finish_children.Goals as goal

@@ -1,4 +1,4 @@
-use Rattle.bisect.specs.goals.declared.line.Line.TheVariants as line
+use Rattle.goals.specs.declared.line.Line.TheVariants as line
 use Rattle.case_trees.proofs.Covered.{holds_over}
 use Rattle.case_trees.proofs.laws.lines_cover_cases.Goals as goal
 

@@ -7,6 +7,7 @@ use Rattle.cert_bytes.specs.declared.order.DueItem.TheVariants.{Head}
 use Rattle.cert_bytes.specs.Certificates.{AreCertificate}
 use Rattle.cert_bytes.specs.Pieces.{cursor_of}
 use Rattle.cert_bytes.specs.ReadOut.{AreRead}
+use Rattle.cert_bytes.specs.Calls.{reads_on_then}
 use Rattle.cert_checker.specs.declared.lines.Lines.{Lines}
 use Rattle.cert_checker.specs.declared.subject.Subject.{Subject}
 use Rattle.cert_checker.specs.Contexts.{Context, first}
@@ -14,7 +15,6 @@ use Rattle.cert_checker.specs.Faults.{JudgesItem}
 use Rattle.cert_checker.specs.After.{after}
 use Rattle.cert_checker.specs.Standing.{Standing}
 use Rattle.cert_checker.specs.Accepted.{LeadsTo}
-use Rattle.cert_bytes.specs.Calls.{reads_on_then}
 use Rattle.cert_checker.proofs.Turns.{has_room, steady_on, reaches_on, stops, shows, failed_so}
 use Rattle.cert_checker.proofs.Turns.{fewer_turns}
 use Rattle.cert_checker.specs.declared.keep.Accepted.{Accepted}

@@ -1,9 +1,9 @@
 use Rattle.std.proofs.Common.{◌≤◌, ◌+◌, length}
 use Rattle.std.specs.List.{AllByRecursion}
-use Rattle.whole_texts.specs.OnlyWrites.{OnlyWrites}
 use Rattle.cert_bytes.specs.declared.style.Style.TheVariants.{Second}
 use Rattle.cert_bytes.specs.Certificates.{HasSpelling}
 use Rattle.cert_bytes.specs.Spelling.{spelled_from, certificate_of}
+use Rattle.whole_texts.specs.OnlyWrites.{OnlyWrites}
 use Rattle.cert_rewriting.proofs.Written.{IsWriting}
 use Rattle.cert_rewriting.proofs.writing.add_items.Given as goal
 

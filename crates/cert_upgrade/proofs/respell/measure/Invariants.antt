@@ -1,6 +1,6 @@
 use Rattle.std.proofs.Common.{◌≡◌, ◌≤◌, ◌^◌}
-use Rattle.cert_bytes.specs.Pieces.{AgreesTold}
 use Rattle.fx_edge.specs.OnlyReads.{OnlyReads}
+use Rattle.cert_bytes.specs.Pieces.{AgreesTold}
 use Rattle.cert_upgrade.proofs.Measured.{HasMeasured}
 use Rattle.cert_upgrade.proofs.Read.{turns_left}
 use Rattle.cert_upgrade.proofs.respell.measure.Given as goal

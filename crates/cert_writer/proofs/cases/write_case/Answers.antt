@@ -1,11 +1,11 @@
 use Rattle.std.specs.Prelude.{◌+◌, drop}
 use Rattle.std.specs.List.{AllByRecursion}
 use Rattle.std.proofs.Common.{sym, ◌∙◌, ap, subst}
-use Rattle.answer_certificates.specs.script_claims.Facts.{HasNormalBounds, facts_of}
-use Rattle.answer_certificates.specs.script_grammar.Cases.{cases_of}
-use Rattle.answer_certificates.specs.settler.Cases.{case_of}
-use Rattle.box_trace.specs.rule_universe.Assumed.{assuming}
-use Rattle.answer_certificates.specs.universe.Cases.{AreHypotheses}
+use Rattle.script_claims.specs.Facts.{HasNormalBounds, facts_of}
+use Rattle.script_grammar.specs.Cases.{cases_of}
+use Rattle.rule_universe.specs.Assumed.{assuming}
+use Rattle.universe.specs.Cases.{AreHypotheses}
+use Rattle.settler.specs.Cases.{case_of}
 use Rattle.cert_writer.specs.Files.{on_err}
 use Rattle.cert_writer.specs.Cases.{bare, task, target_of, StandsAt, OfStanding, GrewFront}
 use Rattle.cert_writer.proofs.NextCase.{drop_there, still, is_course, is_before, past_case}

@@ -1,9 +1,9 @@
 use Rattle.std.specs.Prelude.{◌+◌, refl}
 use Rattle.std.proofs.Common.{sym, ◌∙◌, subst, arith}
 use Rattle.std.proofs.lemmas.List.{drop_all}
-use Rattle.answer_certificates.specs.script_grammar.Cases.{cases_of}
-use Rattle.answer_certificates.specs.settler.Cases.{as_many}
-use Rattle.cert_trim.specs.cert_bytes.Styles.{none_seen}
+use Rattle.script_grammar.specs.Cases.{cases_of}
+use Rattle.settler.specs.Cases.{as_many}
+use Rattle.cert_bytes.specs.Styles.{none_seen}
 use Rattle.whole_texts.specs.OnlyWrites.{only_writes_none, only_writes_on}
 use Rattle.cert_writer.specs.Files.{on_err}
 use Rattle.cert_writer.specs.Cases.{bare, task, whole_aim, StandsAt, StandsBefore, OfStanding}

@@ -1,7 +1,7 @@
 use Rattle.std.proofs.Common.{◌≡◌, List}
-use Rattle.answer_certificates.specs.script_claims.declared.claim.Claim.{Claim}
-use Rattle.answer_certificates.specs.universe.Universes.{IsUniverse}
-use Rattle.cert_trim.specs.cert_bytes.Styles.{none_seen}
+use Rattle.script_claims.specs.declared.claim.Claim.{Claim}
+use Rattle.universe.specs.Universes.{IsUniverse}
+use Rattle.cert_bytes.specs.Styles.{none_seen}
 use Rattle.whole_texts.specs.OnlyWrites.{OnlyWrites}
 use Rattle.cert_writer.specs.Cases.{bare, OfStanding, GoesOn}
 use Rattle.cert_writer.proofs.cases.write_cases.Given as goal

@@ -1,10 +1,10 @@
 use Rattle.std.specs.Prelude.{[], ◌++◌}
 use Rattle.std.specs.Io.KnownBytes.{Appends}
 use Rattle.std.proofs.Common.{◌∙◌, ap, subst, refl}
-use Rattle.cert_trim.specs.cert_bytes.declared.item.Item.TheVariants as item
-use Rattle.cert_trim.specs.cert_bytes.Spelling.{spelling_of}
-use Rattle.cert_writer.specs.Files.{on_err}
+use Rattle.cert_bytes.specs.declared.item.Item.TheVariants as item
+use Rattle.cert_bytes.specs.Spelling.{spelling_of}
 use Rattle.whole_texts.specs.Pieces.{AppendsFront}
+use Rattle.cert_writer.specs.Files.{on_err}
 use Rattle.cert_writer.proofs.Turn.{appends_none}
 use Rattle.cert_writer.proofs.cases.write_end.Goals as goal
 

@@ -1,9 +1,9 @@
 use Rattle.std.specs.Prelude.{◌≡◌, ◌++◌, length}
 use Rattle.std.proofs.Common.{◌∙◌, ap, arith}
 use Rattle.std.proofs.lemmas.Grind.{common_steps}
-use Rattle.cert_trim.specs.cert_bytes.declared.item.Item.TheVariants as item
-use Rattle.cert_trim.specs.cert_bytes.Styles.{none_seen}
-use Rattle.cert_trim.specs.cert_bytes.Spelling.{spelling_of}
+use Rattle.cert_bytes.specs.declared.item.Item.TheVariants as item
+use Rattle.cert_bytes.specs.Styles.{none_seen}
+use Rattle.cert_bytes.specs.Spelling.{spelling_of}
 use Rattle.cert_writer.proofs.Spelled.{spelled_head}
 use Rattle.cert_writer.proofs.head.spell_head.Goals as goal
 

@@ -1,10 +1,10 @@
 use Rattle.std.specs.Prelude.{slice_index_or}
 use Rattle.std.proofs.Common.{arith}
 use Rattle.std.proofs.lemmas.Option.{slice_get-get_or}
-use Rattle.goals.specs.facts.declared.hint.HintMark.{HintMark}
-use Rattle.goals.specs.facts.declared.hint.HintMark.TheVariants.{Checked}
-use Rattle.cert_trim.specs.cert_bytes.declared.item.Item.TheVariants as item
-use Rattle.cert_trim.specs.cert_bytes.Styles.{none_seen}
+use Rattle.facts.specs.declared.hint.HintMark.{HintMark}
+use Rattle.facts.specs.declared.hint.HintMark.TheVariants.{Checked}
+use Rattle.cert_bytes.specs.declared.item.Item.TheVariants as item
+use Rattle.cert_bytes.specs.Styles.{none_seen}
 use Rattle.cert_writer.proofs.Seen.{marks_seen}
 use Rattle.cert_writer.proofs.Spelled.{spelled_next}
 use Rattle.cert_writer.proofs.head.spell_marks.Goals as goal

@@ -1,5 +1,5 @@
-use Rattle.cert_trim.specs.cert_bytes.declared.item.Item.TheVariants as item
-use Rattle.cert_trim.specs.cert_bytes.Styles.{none_seen}
+use Rattle.cert_bytes.specs.declared.item.Item.TheVariants as item
+use Rattle.cert_bytes.specs.Styles.{none_seen}
 use Rattle.cert_writer.proofs.Seen.{nodes_seen}
 use Rattle.cert_writer.proofs.Spelled.{spelled_next}
 use Rattle.cert_writer.proofs.head.spell_nodes.Goals as goal

@@ -1,6 +1,6 @@
 use Rattle.std.proofs.Common.{◌≡◌, ◌++◌, map, take}
-use Rattle.cert_trim.specs.cert_bytes.declared.item.Item.TheVariants as item
-use Rattle.cert_trim.specs.cert_bytes.Spelling.{certificate_of}
+use Rattle.cert_bytes.specs.declared.item.Item.TheVariants as item
+use Rattle.cert_bytes.specs.Spelling.{certificate_of}
 use Rattle.cert_writer.proofs.head.spell_nodes.Given as goal
 
 abbrev pub invariant-loop-k : goal.invariant-loop-k

@@ -1,5 +1,5 @@
 use Rattle.std.proofs.Common.{◌≡◌, ◌≤◌, ◌+◌, ◌++◌, length, map, vec_capacity}
-use Rattle.cert_trim.specs.cert_bytes.declared.item.Item.TheVariants as item
+use Rattle.cert_bytes.specs.declared.item.Item.TheVariants as item
 use Rattle.cert_writer.proofs.spell.own_items.Given as goal
 
 abbrev pub invariant-loop-row : goal.invariant-loop-row

@@ -1,6 +1,6 @@
 use Rattle.std.proofs.Common.{◌≡◌, ◌++◌, length}
+use Rattle.tree_certificates.specs.Trees.{AllSettled}
 use Rattle.box_trace.specs.Tables.{known_at}
-use Rattle.box_trace.specs.tree_certificates.Trees.{AllSettled}
 use Rattle.cert_writer.specs.Boxes.{refs_in}
 use Rattle.cert_writer.proofs.spell.refs_of.Given as goal
 

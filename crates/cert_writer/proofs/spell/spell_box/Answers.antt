@@ -1,5 +1,5 @@
 use Rattle.std.proofs.Common.{◌++◌, ◌∙◌, ap}
-use Rattle.cert_trim.specs.cert_bytes.Spelling.{spelled_behind}
+use Rattle.cert_bytes.specs.Spelling.{spelled_behind}
 use Rattle.cert_writer.proofs.spell.spell_box.Goals as goal
 
 pub returns-clause-spelled : goal.returns-clause-spelled

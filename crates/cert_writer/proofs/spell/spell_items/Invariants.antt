@@ -1,6 +1,6 @@
 use Rattle.std.proofs.Common.{◌≡◌, ◌++◌, take}
-use Rattle.cert_trim.specs.cert_bytes.Styles.{seen_behind}
-use Rattle.cert_trim.specs.cert_bytes.Spelling.{spelled_behind}
+use Rattle.cert_bytes.specs.Styles.{seen_behind}
+use Rattle.cert_bytes.specs.Spelling.{spelled_behind}
 use Rattle.cert_writer.proofs.spell.spell_items.Given as goal
 
 abbrev pub invariant-loop-item : goal.invariant-loop-item

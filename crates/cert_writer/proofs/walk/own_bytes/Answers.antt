@@ -1,14 +1,14 @@
 use Rattle.std.proofs.Common.{◌≡◌, ◌+◌, length, sym, ◌∙◌, ap, subst, arith}
 use Rattle.std.specs.List.{AllByRecursion}
-use Rattle.cert_trim.specs.cert_bytes.Certificates.{HasSpelling}
-use Rattle.box_trace.specs.Boxes.{IsItsTable, AreItsSteps, log_of}
+use Rattle.cert_bytes.specs.Certificates.{HasSpelling}
+use Rattle.cert_bytes.specs.Styles.{seen_behind}
+use Rattle.cert_bytes.specs.Spelling.{spelled_behind}
 use Rattle.cert_trim.specs.Used.{CiteEarlier}
+use Rattle.cert_trim.specs.Behind.{section_of}
+use Rattle.box_trace.specs.Boxes.{IsItsTable, AreItsSteps, log_of}
 use Rattle.cert_writer.specs.Boxes.{written_of}
 use Rattle.cert_writer.specs.Walks.{IsLast, MayEnd}
 use Rattle.cert_writer.specs.Courses.{course, AreOwnBytes}
-use Rattle.cert_trim.specs.cert_bytes.Styles.{seen_behind}
-use Rattle.cert_trim.specs.cert_bytes.Spelling.{spelled_behind}
-use Rattle.cert_trim.specs.Behind.{section_of}
 use Rattle.cert_writer.proofs.Own.{has_room, has_sections}
 use Rattle.cert_writer.proofs.Done.{may_end, own_done, own_cites, own_spelled, own_few, own_length}
 use Rattle.cert_writer.proofs.walk.own_bytes.Goals as goal

@@ -1,5 +1,5 @@
 use Rattle.std.proofs.Common.{ℕ, List, Err, IfOk, ap, sym, subst}
-use Rattle.script_checker.specs.script_grammar.Spells.{View}
+use Rattle.script_grammar.specs.Spells.{View}
 use Rattle.check_command.specs.Checked.{CheckPrints, IsAcceptable}
 use Rattle.check_command.proofs.check.check_answer.Goals as goal
 

@@ -1,6 +1,6 @@
+use mir.Syntax.{w128}
 use Rattle.std.proofs.Common.{arith, to_z, of_z, w64}
 use Rattle.std.proofs.lemmas.Int.{ints}
-use mir.Syntax.{w128}
 use Rattle.dyadic.proofs.FloorLemmas.{whole_fits, high_fits, high_is}
 use Rattle.dyadic.proofs.floor.high_product.Goals as goal
 

@@ -2,8 +2,8 @@ use Rattle.std.proofs.Common.{arith, subst}
 use Rattle.std.proofs.lemmas.Int.{ints}
 use Rattle.fx_model.specs.Fraction.{Fraction, ◌+ℚ◌}
 use Rattle.fx_model.specs.Grid.{signed}
-use Rattle.dyadic.specs.Values.{value_of}
 use Rattle.fx_model.specs.Cut.{Cuts}
+use Rattle.dyadic.specs.Values.{value_of}
 use Rattle.dyadic.proofs.MiddleLemmas.{halved_cut}
 use Rattle.dyadic.proofs.SumLemmas.{terms_are}
 use Rattle.dyadic.proofs.middle.half_sum.Goals as goal

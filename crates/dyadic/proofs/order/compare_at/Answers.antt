@@ -1,7 +1,7 @@
-use Rattle.std.proofs.Common.{arith, ◌≡◌, ◌∙◌, sym, w64}
-use Rattle.std.proofs.lemmas.Int.{ints}
 use mir.Syntax.{w128}
 use mir.Val.{to_z, of_z}
+use Rattle.std.proofs.Common.{arith, ◌≡◌, ◌∙◌, sym, w64}
+use Rattle.std.proofs.lemmas.Int.{ints}
 use Rattle.dyadic.proofs.OrderLemmas.{compared_far, signs_above}
 use Rattle.dyadic.proofs.order.compare_at.Goals as goal
 

@@ -1,7 +1,7 @@
 use Rattle.std.proofs.Common.{subst, sym}
 use Rattle.fx_model.specs.Grid.{IsDown}
-use Rattle.dyadic.specs.Ends.{bound_of}
 use Rattle.fx_model.specs.Fraction.{◌/ℚ◌}
+use Rattle.dyadic.specs.Ends.{bound_of}
 use Rattle.dyadic.specs.Values.{value_of}
 use Rattle.dyadic.proofs.products.div_down.Goals as goal
 

@@ -1,7 +1,7 @@
-use Rattle.std.proofs.Common.{arith}
-use Rattle.std.proofs.lemmas.Int.{ints}
 use mir.Syntax.{w128}
 use mir.Val.{to_z, of_z}
+use Rattle.std.proofs.Common.{arith}
+use Rattle.std.proofs.lemmas.Int.{ints}
 use Rattle.dyadic.proofs.ShiftLemmas.{product_fits, product_is, product_small}
 use Rattle.dyadic.proofs.shift.shifted.Goals as goal
 

@@ -1,8 +1,8 @@
 use Rattle.std.proofs.Common.{subst}
 use Rattle.fx_model.specs.Fraction.{◌+ℚ◌, Fraction}
 use Rattle.fx_model.specs.Grid.{signed}
-use Rattle.dyadic.specs.Values.{value_of}
 use Rattle.fx_model.specs.Cut.{Cuts}
+use Rattle.dyadic.specs.Values.{value_of}
 use Rattle.dyadic.proofs.SumLemmas.{terms_are}
 use Rattle.dyadic.proofs.sums.long_sum_up.Goals as goal
 

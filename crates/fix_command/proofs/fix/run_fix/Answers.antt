@@ -2,9 +2,9 @@ use Rattle.std.proofs.Common.{Err, refl, ap, subst, ◌∙◌, string_bytes, ari
 use Rattle.std.specs.Option.{option_map}
 use Rattle.fx_edge.specs.Outside.{Rose}
 use Rattle.command_line.specs.Fix.{fix_of}
+use Rattle.whole_texts.specs.Texts.{IsText}
 use Rattle.command_runs.specs.Ends.{IsPut}
 use Rattle.command_runs.specs.Fates.{Leaves, begun}
-use Rattle.whole_texts.specs.Texts.{IsText}
 use Rattle.fix_command.specs.Command.{left_of}
 use Rattle.fix_command.proofs.Ended.{unread, put, unwritten}
 use Rattle.fix_command.proofs.fix.run_fix.Goals as goal

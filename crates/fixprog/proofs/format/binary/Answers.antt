@@ -1,6 +1,6 @@
-use Rattle.std.proofs.Common.{pos, sym, ap, ◌∙◌}
 use mir.Syntax.{w32}
 use mir.Val.{to_z, of_z}
+use Rattle.std.proofs.Common.{pos, sym, ap, ◌∙◌}
 use Rattle.std.proofs.lemmas.Int.{to_z-of_z}
 use Rattle.fx_model.specs.Powers.{scaled}
 use Rattle.fx_model.specs.Grid.{signed}

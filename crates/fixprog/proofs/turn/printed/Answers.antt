@@ -1,6 +1,6 @@
 use Rattle.std.proofs.Common.{sym, ap, ◌∙◌, subst, arith}
-use Rattle.fixprog.proofs.Faultless.{inputs_fine, steps_fine, steps_len, outputs_len}
 use Rattle.std.specs.Str.{IsUtf8}
+use Rattle.fixprog.proofs.Faultless.{inputs_fine, steps_fine, steps_len, outputs_len}
 use Rattle.fixprog.proofs.AsciiScript.{script_utf8}
 use Rattle.fixprog.proofs.Printing.{script_is}
 use Rattle.fixprog.proofs.turn.printed.Goals as goal

@@ -1,14 +1,12 @@
 -- The greatest whole number that is at most a fraction.
-use Rattle.std.specs.Prelude.{◌≡◌, ℕ, ◌*◌, ◌+◌, ◌-◌, ◌/◌, ◌≤◌, ◌<◌, Bool, true, false, cond, not}
-use Rattle.std.specs.Prelude.{refl}
-use Rattle.std.proofs.Common.{arith, sym, subst}
-use Rattle.std.proofs.Math.Nat.{mul-le-mul_left, mul-le-mul_right}
 use mathlib.Core.Quot.{mk, lift}
 use lib.Dec.{T, leb, leb→le, nleb→lt}
 use lib.IntN.{neg_ℤ, ℤ_set}
 use borrow.Author.Differences.{up, down, neg_is, same_in}
-use Rattle.std.specs.Prelude.{ℤ, pos}
-use Rattle.std.proofs.Common.{⊎_elim}
+use Rattle.std.specs.Prelude.{◌≡◌, ℕ, ◌*◌, ◌+◌, ◌-◌, ◌/◌, ◌≤◌, ◌<◌, Bool, true, false, cond, not}
+use Rattle.std.specs.Prelude.{refl, ℤ, pos}
+use Rattle.std.proofs.Common.{arith, sym, subst, ⊎_elim}
+use Rattle.std.proofs.Math.Nat.{mul-le-mul_left, mul-le-mul_right}
 use Rattle.std.proofs.lemmas.Nat.{div-add-mod', mod_below}
 use Rattle.std.proofs.lemmas.Bool.{cases_lt}
 use Rattle.fx_model.specs.Fraction.Core.{Ratio, Same, Fraction, of_ratio}

@@ -1,10 +1,9 @@
 -- Absolute values and quotients.
-use Rattle.std.specs.Prelude.{◌≡◌, ◌⊎◌, ℕ, ◌*◌, ◌+◌, ◌-◌, ◌<◌, Bool, true, false, cond, refl}
-use Rattle.std.proofs.Common.{arith, sym, ap, ◌∙◌, lit<, inl, inr}
-use Rattle.std.proofs.Math.Nat.{mul-pos}
 use mathlib.Core.Quot.{mk, sound, lift, Quot-set}
 use mathlib.Core.HLevel.{→_prop}
-use Rattle.std.proofs.Common.{⊎_elim, zero, suc}
+use Rattle.std.specs.Prelude.{◌≡◌, ◌⊎◌, ℕ, ◌*◌, ◌+◌, ◌-◌, ◌<◌, Bool, true, false, cond, refl}
+use Rattle.std.proofs.Common.{arith, sym, ap, ◌∙◌, lit<, inl, inr, ⊎_elim, zero, suc}
+use Rattle.std.proofs.Math.Nat.{mul-pos}
 use Rattle.std.proofs.lemmas.Bool.{cases_lt}
 use Rattle.fx_model.specs.Fraction.Core.{Ratio, Same, Fraction, ◌*ℚ◌, neg_ℚ, le_ℚ, ◌≤ℚ◌, ◌<ℚ◌}
 use Rattle.fx_model.specs.Fraction.Core.{by_ratio, Fraction-set, of_ratio, zero_ℚ, one_ℚ}

@@ -1,12 +1,12 @@
 -- The order of fractions, and what sums, products and negations do to it.
-use Rattle.std.specs.Prelude.{◌≡◌, ◌⊎◌, ℕ, ◌*◌, ◌+◌, ◌-◌, ◌≤◌, ◌<◌, Bool, true, false, IsFalse, not}
-use Rattle.std.specs.Prelude.{refl}
-use Rattle.std.proofs.Common.{arith, sym, ◌∙◌, subst, inl, inr}
-use Rattle.std.proofs.Math.Nat.{mul-le-mul_left, mul-le-mul_right}
 use mathlib.Core.Quot.{mk, sound}
 use mathlib.Core.Bool.{Bool-set}
 use mathlib.Core.HLevel.{Π_prop, →_prop}
 use lib.Dec.{T, leb, le→leb, leb→le, nleb→lt}
+use Rattle.std.specs.Prelude.{◌≡◌, ◌⊎◌, ℕ, ◌*◌, ◌+◌, ◌-◌, ◌≤◌, ◌<◌, Bool, true, false, IsFalse, not}
+use Rattle.std.specs.Prelude.{refl}
+use Rattle.std.proofs.Common.{arith, sym, ◌∙◌, subst, inl, inr}
+use Rattle.std.proofs.Math.Nat.{mul-le-mul_left, mul-le-mul_right}
 use Rattle.fx_model.specs.Fraction.Core.{Ratio, Same, Fraction, positive-mul, add_ratio, mul_ratio}
 use Rattle.fx_model.specs.Fraction.Core.{neg_ratio, ◌+ℚ◌, ◌*ℚ◌, neg_ℚ, ◌-ℚ◌, cancel_le, le_ratio}
 use Rattle.fx_model.specs.Fraction.Core.{LeRatio, le_ℚ, ◌≤ℚ◌, ◌<ℚ◌, by_ratio, Fraction-set, same_2}

@@ -1,7 +1,7 @@
 -- Fractions are a commutative ring.
+use mathlib.Core.Quot.{sound}
 use Rattle.std.specs.Prelude.{◌≡◌}
 use Rattle.std.proofs.Common.{arith}
-use mathlib.Core.Quot.{sound}
 use Rattle.fx_model.specs.Fraction.Core.{Same, Fraction, ◌+ℚ◌, ◌*ℚ◌, neg_ℚ, same_1, same_2, same_3}
 use Rattle.fx_model.specs.Fraction.Core.{zero_ℚ, one_ℚ}
 

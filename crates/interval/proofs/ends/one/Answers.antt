@@ -1,5 +1,5 @@
 use Rattle.std.proofs.Common.{ap}
-use Rattle.dyadic.specs.fx_model.Grid.{At}
+use Rattle.fx_model.specs.Grid.{At}
 use Rattle.interval.proofs.ends.one.Goals as goal
 
 pub returns : goal.returns

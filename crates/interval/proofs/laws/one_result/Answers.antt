@@ -1,4 +1,4 @@
-use Rattle.dyadic.specs.fx_model.Enclosure.{Negations, Sizes, Squares, Sums, Differences}
+use Rattle.fx_model.specs.Enclosure.{Negations, Sizes, Squares, Sums, Differences}
 use Rattle.interval.specs.Pairs.{Union}
 use Rattle.interval.proofs.Unique.{enclosure_only, product_only, quotient_only}
 use Rattle.interval.proofs.laws.one_result.Goals as goal

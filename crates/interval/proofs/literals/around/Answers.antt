@@ -1,7 +1,7 @@
 use Rattle.std.proofs.Common.{◌≡◌, arith, to_z, of_z, w32}
 use Rattle.std.specs.Int.{w128}
 use Rattle.std.proofs.lemmas.Int.{ints}
-use Rattle.dyadic.specs.fx_model.Powers.{scaled}
+use Rattle.fx_model.specs.Powers.{scaled}
 use Rattle.dyadic.specs.Ends.{bound_of}
 use Rattle.interval.specs.Written.{alone_enclosed, rounded_ordered, restated}
 use Rattle.interval.proofs.literals.around.Goals as goal

@@ -2,9 +2,9 @@ use Rattle.std.proofs.Common.{◌≡◌, ◌*◌, ◌^◌, ◌<ℤ◌, ◌≤ℤ
 use Rattle.std.specs.Int.{w128}
 use Rattle.std.specs.Int.RustNames.{unsigned_abs}
 use Rattle.std.proofs.lemmas.Int.{ints}
-use Rattle.dyadic.specs.fx_model.Powers.{whole}
-use Rattle.dyadic.specs.fx_model.Grid.{signed}
-use Rattle.dyadic.specs.fx_model.Expression.{literal_value}
+use Rattle.fx_model.specs.Powers.{whole}
+use Rattle.fx_model.specs.Grid.{signed}
+use Rattle.fx_model.specs.Expression.{literal_value}
 use Rattle.literal.specs.Limits.{bounded}
 use Rattle.interval.specs.Written.{ten_is, two_is, power_fits, divisor_fits, divisor_some}
 use Rattle.interval.specs.Written.{with_tens_small, value_down, value_up, signed_ratio, restated}

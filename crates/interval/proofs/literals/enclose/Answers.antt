@@ -1,5 +1,5 @@
-use Rattle.dyadic.specs.fx_model.Grid.{signed}
-use Rattle.dyadic.specs.fx_model.Expression.{literal_value}
+use Rattle.fx_model.specs.Grid.{signed}
+use Rattle.fx_model.specs.Expression.{literal_value}
 use Rattle.interval.specs.Results.{point_only}
 use Rattle.interval.proofs.literals.enclose.Goals as goal
 

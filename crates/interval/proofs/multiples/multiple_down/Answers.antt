@@ -3,9 +3,9 @@ use Rattle.std.proofs.Common.{w32, w64}
 use Rattle.std.specs.Int.RustNames.{unsigned_abs}
 use Rattle.std.specs.Int.Signed.{shr_z}
 use Rattle.std.proofs.lemmas.Int.{ints}
+use Rattle.fx_model.specs.Cut.Gaps.{gap_le}
 use Rattle.interval.proofs.Shrunk.{down_self, multiple_above, moved_down, shifted_grid}
 use Rattle.interval.proofs.multiples.multiple_down.Goals as goal
-use Rattle.dyadic.specs.fx_model.Cut.Gaps.{gap_le}
 
 pub returns-then-exponent-k : goal.returns-then-exponent-k
 returns-then-exponent-k c =

@@ -1,7 +1,7 @@
 use Rattle.std.proofs.Common.{arith}
 use Rattle.std.proofs.lemmas.Int.{ints}
+use Rattle.fx_model.specs.Powers.{scaled_up, scaled_up_out}
 use Rattle.interval.proofs.order.not_negative.Goals as goal
-use Rattle.dyadic.specs.fx_model.Powers.{scaled_up, scaled_up_out}
 
 pub returns : goal.returns
 returns c = (

@@ -1,7 +1,7 @@
 use Rattle.std.proofs.Common.{arith}
 use Rattle.std.proofs.lemmas.Int.{ints}
+use Rattle.fx_model.specs.Powers.{scaled_down, scaled_down_out}
 use Rattle.interval.proofs.order.not_positive.Goals as goal
-use Rattle.dyadic.specs.fx_model.Powers.{scaled_down, scaled_down_out}
 
 pub returns : goal.returns
 returns c = (

@@ -1,6 +1,6 @@
 use Rattle.std.proofs.Common.{subst}
+use Rattle.fx_model.specs.Enclosure.{Products, IsInfimum}
 use Rattle.dyadic.specs.Ends.{bound_of}
-use Rattle.dyadic.specs.fx_model.Enclosure.{Products, IsInfimum}
 use Rattle.interval.specs.Spans.{span_of}
 use Rattle.interval.proofs.Corners.{products_high}
 use Rattle.interval.proofs.products.high_product.Goals as goal

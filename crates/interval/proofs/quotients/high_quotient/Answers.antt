@@ -1,6 +1,6 @@
 use Rattle.std.proofs.Common.{subst}
+use Rattle.fx_model.specs.Enclosure.{Quotients, IsInfimum}
 use Rattle.dyadic.specs.Ends.{bound_of}
-use Rattle.dyadic.specs.fx_model.Enclosure.{Quotients, IsInfimum}
 use Rattle.interval.specs.Spans.{span_of}
 use Rattle.interval.proofs.Divisors.{quotients_high}
 use Rattle.interval.proofs.quotients.high_quotient.Goals as goal

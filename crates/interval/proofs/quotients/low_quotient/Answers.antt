@@ -1,12 +1,12 @@
 use Rattle.std.specs.Prelude.{◌≢◌}
 use Rattle.std.proofs.Common.{sym, subst}
-use Rattle.dyadic.specs.fx_model.Fraction.{zero_ℚ, ◌/ℚ◌, lt_le_trans}
-use Rattle.dyadic.specs.fx_model.Grid.{IsDown}
+use Rattle.fx_model.specs.Fraction.{zero_ℚ, ◌/ℚ◌, lt_le_trans}
+use Rattle.fx_model.specs.Grid.{IsDown}
+use Rattle.grid_words.specs.Signs.{not_zero}
 use Rattle.dyadic.specs.Ends.{bound_of}
 use Rattle.dyadic.specs.Values.{value_of}
 use Rattle.interval.proofs.Divisors.{quotient_up, quotient_down}
 use Rattle.interval.proofs.Inequalities.{below_by}
-use Rattle.grid_words.specs.Signs.{not_zero}
 use Rattle.interval.proofs.quotients.low_quotient.Goals as goal
 use Rattle.interval.proofs.quotients.low_quotient.Goals.{then-not_negative, else-not_negative}
 

@@ -1,6 +1,6 @@
 use Rattle.std.proofs.Common.{sym, subst}
-use Rattle.dyadic.specs.fx_model.Fraction.{zero_ℚ, ◌<ℚ◌}
-use Rattle.dyadic.specs.fx_model.Enclosure.{Quotients, IsEnclosure, mirror}
+use Rattle.fx_model.specs.Fraction.{zero_ℚ, ◌<ℚ◌}
+use Rattle.fx_model.specs.Enclosure.{Quotients, IsEnclosure, mirror}
 use Rattle.interval.specs.Spans.{span_of}
 use Rattle.interval.proofs.Divisors.{turned_above, quotients_turned}
 use Rattle.interval.proofs.quotients.rising.Goals as goal

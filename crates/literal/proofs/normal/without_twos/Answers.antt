@@ -1,8 +1,8 @@
+use lib.Count.{count_trailing_zeros}
+use mir.Syntax.{w128}
 use Rattle.std.proofs.Common.{arith, ◌<◌}
 use Rattle.std.proofs.lemmas.Int.{ints}
 use Rattle.std.proofs.lemmas.Nat.Bits.{bit_at-trailing_zeros}
-use lib.Count.{count_trailing_zeros}
-use mir.Syntax.{w128}
 use Rattle.literal.proofs.Numbers.{twos_are}
 use Rattle.literal.proofs.normal.without_twos.Goals as goal
 

@@ -1,7 +1,7 @@
 use Rattle.std.proofs.Common.{◌≡◌, IsTrue, ◌↔◌, sym, subst, arith}
-use Rattle.interval.specs.fx_model.Expression.{literal_value}
-use Rattle.interval.specs.fx_model.Fraction.{◌<ℚ◌}
-use Rattle.interval.specs.fx_model.Grid.{signed}
+use Rattle.fx_model.specs.Expression.{literal_value}
+use Rattle.fx_model.specs.Fraction.{◌<ℚ◌}
+use Rattle.fx_model.specs.Grid.{signed}
 use Rattle.literal_order.proofs.Ratios.{chained}
 use Rattle.literal_order.proofs.Signs.{both_down, apart}
 use Rattle.literal_order.proofs.order.is_below.Goals as goal

@@ -1,7 +1,7 @@
 use Rattle.std.proofs.Common.{◌≡◌, ◌+ℤ◌, pos, arith}
 use Rattle.std.proofs.lemmas.Int.{ints}
-use Rattle.interval.specs.fx_model.Expression.{literal_value}
-use Rattle.interval.specs.literal.Limits.{bounded}
+use Rattle.fx_model.specs.Expression.{literal_value}
+use Rattle.literal.specs.Limits.{bounded}
 use Rattle.interval.specs.Written.{two_is}
 use Rattle.literal_order.proofs.Ratios.{IsRatio, across_above, across_below}
 use Rattle.literal_order.proofs.order.is_less.Goals as goal

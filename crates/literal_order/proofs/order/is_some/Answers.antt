@@ -1,4 +1,4 @@
-use Rattle.interval.specs.fx_model.Expression.{literal_value}
+use Rattle.fx_model.specs.Expression.{literal_value}
 use Rattle.literal_order.proofs.Ratios.{IsRatio, from_zero, some_size, tested}
 use Rattle.literal_order.proofs.order.is_some.Goals as goal
 

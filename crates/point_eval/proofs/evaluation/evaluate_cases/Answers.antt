@@ -1,6 +1,6 @@
 use Rattle.std.specs.Prelude.{◌≡◌, List, All, IfOk, length, map}
 use Rattle.std.proofs.Common.{ap, sym, subst, ◌∙◌}
-use Rattle.rewrite_hints.specs.script_hints.Needs.{HasNormalBounds}
+use Rattle.script_hints.specs.Needs.{HasNormalBounds}
 use Rattle.point_values.specs.Among.{AreAmong}
 use Rattle.point_values.specs.Rows.{Row, assignment_of}
 use Rattle.point_values.specs.Evaluation.{Subject, evaluation_of, IsNarrow}

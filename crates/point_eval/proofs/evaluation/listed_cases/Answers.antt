@@ -1,6 +1,6 @@
 use Rattle.std.specs.Prelude.{All}
 use Rattle.script_cases.specs.Cases.{cases}
-use Rattle.script_meets.specs.script_claims.Facts.{HasNormalBounds}
+use Rattle.script_claims.specs.Facts.{HasNormalBounds}
 use Rattle.point_eval.proofs.Listed.{listed_more}
 use Rattle.point_eval.proofs.evaluation.listed_cases.Goals as goal
 

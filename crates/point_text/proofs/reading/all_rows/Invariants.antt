@@ -1,7 +1,7 @@
 use Rattle.std.proofs.Common.{◌≡◌, ◌+◌, length}
 use Rattle.std.specs.Prelude.{map, ◌++◌, Some}
 use Rattle.std.specs.List.{AllByRecursion}
-use Rattle.point_eval.specs.point_values.Rows.{IsRow}
+use Rattle.point_values.specs.Rows.{IsRow}
 use Rattle.point_text.specs.Points.{IsSetRow}
 use Rattle.point_text.proofs.reading.all_rows.Given as goal
 

@@ -1,10 +1,9 @@
 use Rattle.std.specs.Prelude.{◌≡◌, slice_get, Some, None}
-use Rattle.std.proofs.Common.{sym, ap, ◌∙◌, rules}
+use Rattle.std.proofs.Common.{sym, ap, ◌∙◌, rules, subst}
+use Rattle.std.proofs.lemmas.Result.{err_from_is_err_and}
 use Rattle.point_text.specs.Points.{IsSetRow}
 use Rattle.point_text.proofs.Places.{all_set}
 use Rattle.point_text.proofs.Gathering.{gathered_more}
-use Rattle.std.proofs.lemmas.Result.{err_from_is_err_and}
-use Rattle.std.proofs.Common.{subst}
 use Rattle.point_text.specs.Taken.{IsPlaceRefused}
 use Rattle.point_text.specs.Gathered.{RowsRefused, no_name, no_place, no_row}
 use Rattle.point_text.proofs.Faults.{rose}

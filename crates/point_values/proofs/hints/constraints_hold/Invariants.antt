@@ -1,8 +1,8 @@
 use Rattle.std.proofs.Common.{◌≡◌, length}
 use Rattle.std.specs.Prelude.{All, ◌&&◌}
 use Rattle.std.specs.List.{flat_map, list_all}
-use Rattle.script_hints.specs.Needs.{HasNormalBound}
 use Rattle.exact_fractions.specs.Wide.{are_narrow}
+use Rattle.script_hints.specs.Needs.{HasNormalBound}
 use Rattle.point_values.specs.Known.{values_of}
 use Rattle.point_values.specs.Numbers.{constraint_numbers}
 use Rattle.point_values.specs.Truth.{constraint_holds}

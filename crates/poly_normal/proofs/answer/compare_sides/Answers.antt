@@ -1,7 +1,7 @@
 use Rattle.std.proofs.Common.{sym, ◌∙◌}
+use Rattle.std.proofs.lemmas.Bool.{false≢true}
 use Rattle.poly_normal.proofs.Tables.{compared_same, compared_differs}
 use Rattle.poly_normal.proofs.answer.compare_sides.Goals as goal
-use Rattle.std.proofs.lemmas.Bool.{false≢true}
 
 pub returns-then-is_equal : goal.returns-then-is_equal
 returns-then-is_equal c s t a b =

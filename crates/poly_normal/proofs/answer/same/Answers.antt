@@ -1,5 +1,5 @@
 use Rattle.std.proofs.Common.{sym, subst, ◌∷◌, [], List, refl}
-use Rattle.expr_dag.specs.fx_model.declared.ExprId.{ExprId}
+use Rattle.fx_model.specs.declared.ExprId.{ExprId}
 use Rattle.poly_normal.specs.Parts.{AreParts}
 use Rattle.poly_normal.proofs.Quotients.{same_values}
 use Rattle.poly_normal.proofs.Tables.{closed_parts, side_marked, read_compares, read_answers}

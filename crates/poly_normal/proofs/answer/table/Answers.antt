@@ -1,7 +1,6 @@
-use Rattle.std.proofs.Common.{arith, ◌≡◌, ◌≤◌, false, true}
-use Rattle.std.proofs.Common.{slice_index_or, rules}
+use Rattle.std.proofs.Common.{arith, ◌≡◌, ◌≤◌, false, true, slice_index_or, rules}
 use Rattle.std.proofs.lemmas.Bool.{not-true, not-false}
-use Rattle.expr_dag.specs.fx_model.declared.Node.TheVariants.{Var}
+use Rattle.fx_model.specs.declared.Node.TheVariants.{Var}
 use Rattle.poly_normal.specs.Parts.{is_atom_node}
 use Rattle.poly_normal.specs.Places.{places}
 use Rattle.poly_normal.proofs.Trues.{width_small, count_small}

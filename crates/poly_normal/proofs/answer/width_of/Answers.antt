@@ -1,8 +1,7 @@
 use Rattle.std.proofs.Common.{arith, sym, ap, ◌∙◌, ◌+◌, ◌≤◌, take, refl}
 use Rattle.std.proofs.lemmas.List.{take_all}
 use Rattle.poly_normal.specs.Places.{places, trues}
-use Rattle.poly_normal.proofs.Trues.{place_more, length-places, count_small}
-use Rattle.poly_normal.proofs.Trues.{width_small}
+use Rattle.poly_normal.proofs.Trues.{place_more, length-places, count_small, width_small}
 use Rattle.poly_normal.proofs.answer.width_of.Goals as goal
 
 pub overflow_add-width : goal.overflow_add-width

@@ -1,5 +1,4 @@
-use Rattle.std.proofs.Common.{arith, sym, subst, map, ◌+◌, ◌-◌, ◌/◌, slice_range}
-use Rattle.std.proofs.Common.{slice_index_or}
+use Rattle.std.proofs.Common.{arith, sym, subst, map, ◌+◌, ◌-◌, ◌/◌, slice_range, slice_index_or}
 use Rattle.std.proofs.lemmas.Result.{IfOk-weaker}
 use Rattle.poly_normal.specs.Polynomial.{term_product}
 use Rattle.poly_normal.specs.Rows.{no_term, IsRow, IsProductOf, size_of}

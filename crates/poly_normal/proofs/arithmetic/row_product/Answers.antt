@@ -1,6 +1,6 @@
+use mir.Syntax.{w128}
 use Rattle.std.proofs.Common.{arith, sym, ◌∙◌, ap, ◌≡◌, length, slice_index_or, FitsSigned, to_z}
 use Rattle.std.proofs.Common.{of_z, ◌*ℤ◌}
-use mir.Syntax.{w128}
 use Rattle.std.proofs.lemmas.Int.{ints, to_z-of_z}
 use Rattle.poly_normal.specs.Polynomial.{term_product, monomial_product}
 use Rattle.poly_normal.specs.Rows.{no_term}

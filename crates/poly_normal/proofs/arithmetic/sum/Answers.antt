@@ -1,5 +1,4 @@
-use Rattle.std.proofs.Common.{arith, sym, ◌∙◌, ap, inl, inr, ◌≤◌, ◌⊎◌}
-use Rattle.std.proofs.Common.{length, slice_index_or}
+use Rattle.std.proofs.Common.{arith, sym, ◌∙◌, ap, inl, inr, ◌≤◌, ◌⊎◌, length, slice_index_or}
 use Rattle.std.proofs.lemmas.Int.{ints}
 use Rattle.poly_normal.specs.Rows.{no_term}
 use Rattle.poly_normal.specs.TermsOf.{polynomial_of}

@@ -1,8 +1,7 @@
 use Rattle.std.proofs.Common.{arith, refl, lit<}
 use Rattle.std.proofs.lemmas.Int.{ints}
-use Rattle.poly_normal.proofs.Signs.{negative_ten_small, negative_two_large}
-use Rattle.poly_normal.proofs.Signs.{power_above, whole_large, whole_larger}
-use Rattle.poly_normal.proofs.Signs.{whole_ratio}
+use Rattle.poly_normal.proofs.Signs.{negative_ten_small, negative_two_large, power_above}
+use Rattle.poly_normal.proofs.Signs.{whole_large, whole_larger, whole_ratio}
 use Rattle.poly_normal.proofs.literals.fraction.Goals as goal
 
 pub reduced-requires-clause-above : goal.reduced-requires-clause-above

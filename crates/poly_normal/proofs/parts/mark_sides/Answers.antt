@@ -1,6 +1,6 @@
 use Rattle.std.proofs.Common.{◌≡◌, ◌<◌, arith, slice_index_or, vec_len, length}
 use Rattle.std.proofs.lemmas.Option.{slice_get-get_or}
-use Rattle.expr_dag.specs.fx_model.declared.ExprId.{ExprId}
+use Rattle.fx_model.specs.declared.ExprId.{ExprId}
 use Rattle.poly_normal.proofs.Marks.{sides_none, sides_more, sides_all}
 use Rattle.poly_normal.proofs.parts.mark_sides.Goals as goal
 

@@ -1,10 +1,9 @@
-use Rattle.std.proofs.Common.{arith, sym, ap, ◌∙◌, subst, length, false, refl, ◌≡◌, ◌-◌}
-use Rattle.std.proofs.Common.{replicate, slice_index_or}
+use Rattle.std.proofs.Common.{arith, sym, ap, ◌∙◌, subst, length, false, refl, ◌≡◌, ◌-◌, replicate}
+use Rattle.std.proofs.Common.{slice_index_or}
 use Rattle.std.proofs.lemmas.List.{get_or_read}
-use Rattle.expr_dag.specs.fx_model.declared.ExprId.{ExprId}
+use Rattle.fx_model.specs.declared.ExprId.{ExprId}
 use Rattle.poly_normal.specs.Parts.{marked, unmarked}
-use Rattle.poly_normal.proofs.Marks.{IsMarkedFrom, start, step_marked}
-use Rattle.poly_normal.proofs.Marks.{marked_parts}
+use Rattle.poly_normal.proofs.Marks.{IsMarkedFrom, start, step_marked, marked_parts}
 use Rattle.poly_normal.proofs.parts.parts.Goals as goal
 
 pub loop-i-init : goal.loop-i-init

@@ -2,13 +2,12 @@ use Rattle.std.specs.Prelude.{◌⊎◌, slice_index_or}
 use Rattle.std.proofs.Common.{arith, ap, inl, inr, ⊎_elim}
 use Rattle.std.proofs.lemmas.Int.{ints}
 use Rattle.std.proofs.lemmas.Option.{slice_get-get_or}
-use Rattle.expr_dag.specs.fx_model.declared.ExprId.{ExprId}
-use Rattle.expr_dag.specs.fx_model.declared.Literal.{Literal}
-use Rattle.expr_dag.specs.fx_model.declared.Node.{Node}
-use Rattle.expr_dag.specs.fx_model.declared.Node.TheVariants.{Var, Lit, Neg, Add, Sub, Mul, Div}
-use Rattle.expr_dag.specs.fx_model.declared.Node.TheVariants.{Abs, Round}
-use Rattle.expr_dag.specs.literal.Normal.{IsNormal}
-use Rattle.expr_dag.specs.literal.Limits.{bounded}
+use Rattle.fx_model.specs.declared.ExprId.{ExprId}
+use Rattle.fx_model.specs.declared.Literal.{Literal}
+use Rattle.fx_model.specs.declared.Node.{Node}
+use Rattle.fx_model.specs.declared.Node.TheVariants.{Var, Lit, Neg, Add, Sub, Mul, Div, Abs, Round}
+use Rattle.literal.specs.Normal.{IsNormal}
+use Rattle.literal.specs.Limits.{bounded}
 use Rattle.expr_dag.specs.Nodes.{IsInLimits}
 use Rattle.poly_normal.specs.Ratio.{IsPlain, IsPlainNode}
 use Rattle.poly_normal.proofs.shared.plain.Goals as goal

@@ -1,6 +1,6 @@
 use Rattle.std.specs.Prelude.{IfOk, List}
 use Rattle.std.proofs.Common.{subst, ◌∙◌}
-use Rattle.expr_dag.specs.fx_model.declared.Node.{Node}
+use Rattle.fx_model.specs.declared.Node.{Node}
 use Rattle.poly_normal.specs.Mark.{Answers}
 use Rattle.poly_normal.proofs.shared.same.Goals as goal
 

@@ -1,5 +1,5 @@
-use Rattle.std.proofs.Common.{arith, ap, ◌∙◌, ◌≡◌, ◌++◌, ◌∷◌, pos, [], slice_set, refl, length}
-use Rattle.std.proofs.Common.{ℕ, List}
+use Rattle.std.proofs.Common.{arith, ap, ◌∙◌, ◌≡◌, ◌++◌, ◌∷◌, pos, [], slice_set, refl, length, ℕ}
+use Rattle.std.proofs.Common.{List}
 use Rattle.poly_normal.specs.Polynomial.{Polynomial}
 use Rattle.poly_normal.specs.TermsOf.{polynomial_of}
 use Rattle.poly_normal.specs.Places.{unit_row}

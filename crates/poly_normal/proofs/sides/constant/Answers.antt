@@ -1,5 +1,5 @@
-use Rattle.std.proofs.Common.{arith, ap, ◌∙◌, ◌≡◌, ◌++◌, pos, to_z, [], refl}
 use mir.Syntax.{w128}
+use Rattle.std.proofs.Common.{arith, ap, ◌∙◌, ◌≡◌, ◌++◌, pos, to_z, [], refl}
 use Rattle.std.proofs.lemmas.Int.{ints}
 use Rattle.poly_normal.specs.Polynomial.{Polynomial}
 use Rattle.poly_normal.specs.Rows.{with_term}

@@ -1,7 +1,7 @@
 use Rattle.std.proofs.Common.{◌∙◌, refl, sym, subst}
-use Rattle.script_answers.specs.report.Proved.{answer_text}
-use Rattle.script_answers.specs.settler.rewrite_hints.Marks.{AreMarks}
-use Rattle.script_answers.specs.settler.Answers.{Options}
+use Rattle.rewrite_hints.specs.Marks.{AreMarks}
+use Rattle.settler.specs.Answers.{Options}
+use Rattle.report.specs.Proved.{answer_text}
 use Rattle.script_answers.specs.Answers.{IsFound, options_from}
 use Rattle.prove_command.specs.Certified.{name_of}
 use Rattle.prove_command.proofs.Left.{is_spared}

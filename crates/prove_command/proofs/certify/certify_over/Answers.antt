@@ -1,7 +1,7 @@
 use Rattle.std.proofs.Common.{List, sym, subst}
-use Rattle.script_answers.specs.script_grammar.Cases.{cases_of}
-use Rattle.script_answers.specs.settler.declared.cases.Case.{Case}
-use Rattle.script_answers.specs.settler.Cases.{AreCases}
+use Rattle.script_grammar.specs.Cases.{cases_of}
+use Rattle.settler.specs.declared.cases.Case.{Case}
+use Rattle.settler.specs.Cases.{AreCases}
 use Rattle.prove_command.proofs.certify.certify_over.Goals as goal
 
 pub prove_over-requires-clause-cases : goal.prove_over-requires-clause-cases

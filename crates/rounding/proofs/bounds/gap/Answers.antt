@@ -3,7 +3,7 @@ use Rattle.std.specs.Prelude.{◌^◌}
 use Rattle.std.proofs.lemmas.Int.{ints}
 use Rattle.std.proofs.lemmas.Nat.{pow_pos}
 use Rattle.std.proofs.Math.Nat.{pow-le-pow_right}
-use Rattle.interval.specs.fx_model.Powers.{scaled}
+use Rattle.fx_model.specs.Powers.{scaled}
 use Rattle.rounding.specs.Largest.{near_gap}
 use Rattle.rounding.proofs.bounds.gap.Goals as goal
 

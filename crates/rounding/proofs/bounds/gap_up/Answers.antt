@@ -1,10 +1,10 @@
 use Rattle.std.proofs.Common.{◌≡◌, arith, ap, sym, ◌∙◌, subst, ℤ, pos, inl, inr, to_z, of_z, w32}
 use Rattle.std.specs.Prelude.{negsuc, ◌+ℤ◌, ◌<ℤ◌}
 use Rattle.std.proofs.lemmas.Int.{ints}
-use Rattle.interval.specs.fx_model.Fraction.{Fraction, ◌-ℚ◌}
-use Rattle.interval.specs.fx_model.Powers.{two_to}
-use Rattle.interval.specs.fx_model.Grid.{At, IsUp}
-use Rattle.interval.specs.dyadic.Values.{value_of, on_grid}
+use Rattle.fx_model.specs.Fraction.{Fraction, ◌-ℚ◌}
+use Rattle.fx_model.specs.Powers.{two_to}
+use Rattle.fx_model.specs.Grid.{At, IsUp}
+use Rattle.dyadic.specs.Values.{value_of, on_grid}
 use Rattle.rounding.specs.Outward.{up_grid}
 use Rattle.rounding.specs.Largest.{far_gap}
 use Rattle.rounding.proofs.bounds.gap_up.Goals as goal

@@ -1,8 +1,8 @@
 use Rattle.std.proofs.Common.{◌≡◌, arith, ap, sym, ◌∙◌, subst, to_z, of_z, w32}
 use Rattle.std.proofs.lemmas.Int.{ints}
-use Rattle.interval.specs.fx_model.Fraction.{Fraction}
-use Rattle.interval.specs.fx_model.Powers.{two_to}
-use Rattle.interval.specs.fx_model.Grid.{At, IsUp}
+use Rattle.fx_model.specs.Fraction.{Fraction}
+use Rattle.fx_model.specs.Powers.{two_to}
+use Rattle.fx_model.specs.Grid.{At, IsUp}
 use Rattle.rounding.specs.Errors.{half_of}
 use Rattle.rounding.specs.Largest.{half_is, last_half_is}
 use Rattle.rounding.proofs.bounds.half_up.Goals as goal

@@ -1,10 +1,10 @@
 use Rattle.std.proofs.Common.{◌≡◌, arith, ap, sym, ◌∙◌, subst, ℤ, to_z, of_z, w32}
 use Rattle.std.specs.Prelude.{Option, false}
 use Rattle.std.proofs.lemmas.Int.{ints}
-use Rattle.interval.specs.fx_model.Fraction.{Fraction}
-use Rattle.interval.specs.fx_model.Powers.{two_to}
-use Rattle.interval.specs.fx_model.Grid.{At, IsUp}
-use Rattle.interval.specs.dyadic.Values.{value_of}
+use Rattle.fx_model.specs.Fraction.{Fraction}
+use Rattle.fx_model.specs.Powers.{two_to}
+use Rattle.fx_model.specs.Grid.{At, IsUp}
+use Rattle.dyadic.specs.Values.{value_of}
 use Rattle.rounding.specs.Errors.{largest_error, keeps}
 use Rattle.rounding.specs.Outward.{up_grid}
 use Rattle.rounding.specs.Enclosed.{not_kept}

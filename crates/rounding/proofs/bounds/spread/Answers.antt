@@ -1,9 +1,9 @@
 use Rattle.std.proofs.Common.{◌≡◌, arith, sym, ◌∙◌, subst, pos, refl}
 use Rattle.std.proofs.lemmas.Int.{ints}
-use Rattle.interval.specs.fx_model.Fraction.{Fraction, ◌≤ℚ◌, neg_ℚ, zero_ℚ, le_refl, neg_down}
-use Rattle.interval.specs.fx_model.Powers.{scaled, scaled-zero}
-use Rattle.interval.specs.fx_model.Cut.{on_grid}
-use Rattle.interval.specs.dyadic.Values.{value_of}
+use Rattle.fx_model.specs.Fraction.{Fraction, ◌≤ℚ◌, neg_ℚ, zero_ℚ, le_refl, neg_down}
+use Rattle.fx_model.specs.Powers.{scaled, scaled-zero}
+use Rattle.fx_model.specs.Cut.{on_grid}
+use Rattle.dyadic.specs.Values.{value_of}
 use Rattle.rounding.specs.declared.bounds.Span.TheVariants.{Nowhere, Leftward, Rightward, Sideward}
 use Rattle.rounding.specs.declared.bounds.Span.TheVariants.{Near}
 use Rattle.rounding.specs.Enclosed.{spread_by, around_zero}

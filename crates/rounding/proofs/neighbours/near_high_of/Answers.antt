@@ -1,11 +1,11 @@
+use lib.IntN.{neg_ℤ}
 use Rattle.std.proofs.Common.{◌≡◌, arith, ap, sym, ◌∙◌, ℤ, pos, to_z, of_z, w64, lit<}
 use Rattle.std.specs.Prelude.{◌+ℤ◌, ◌-◌, ◌<◌}
 use Rattle.std.specs.Int.Signed.{shr_z}
 use Rattle.std.specs.Int.RustNames.{unsigned_abs}
 use Rattle.std.proofs.lemmas.Int.{ints}
-use lib.IntN.{neg_ℤ}
-use Rattle.interval.specs.fx_model.Powers.{scaled}
-use Rattle.interval.specs.fx_model.Rounded.{floor}
+use Rattle.fx_model.specs.Powers.{scaled}
+use Rattle.fx_model.specs.Rounded.{floor}
 use Rattle.rounding.specs.Shifts.{shr_low, shr_high, near_by, scaled-twice}
 use Rattle.rounding.proofs.neighbours.near_high_of.Goals as goal
 

@@ -1,8 +1,8 @@
 use Rattle.std.proofs.Common.{arith, sym, ◌∙◌, subst, refl}
 use Rattle.std.specs.Prelude.{◌≤ℤ◌}
 use Rattle.std.proofs.lemmas.Int.{ints}
-use Rattle.interval.specs.fx_model.Grid.{IsOnGrid}
-use Rattle.interval.specs.dyadic.Values.{value_of, on_grid}
+use Rattle.fx_model.specs.Grid.{IsOnGrid}
+use Rattle.dyadic.specs.Values.{value_of, on_grid}
 use Rattle.rounding.specs.Rounded.{rounded-finer}
 use Rattle.rounding.specs.OnGrid.{rounded_on_grid}
 use Rattle.rounding.specs.Chosen.{rounded_by}

@@ -1,10 +1,10 @@
 use Rattle.std.proofs.Common.{sym, ◌∙◌, subst}
 use Rattle.pair_closure.specs.Reached.{Has, IsListOf}
+use Rattle.pair_closure.specs.RowLaws.{seconds_has, seconds_once}
 use Rattle.rule_instances.specs.Instances.{IsInstance}
 use Rattle.rule_instances.proofs.Behind.{all_behind}
 use Rattle.rule_instances.proofs.Whole.{all_listed}
 use Rattle.rule_instances.proofs.SidesKnown.{sides_known}
-use Rattle.pair_closure.specs.RowLaws.{seconds_has, seconds_once}
 use Rattle.rule_instances.proofs.all.instances_of.Goals as goal
 
 pub returns-clause-order : goal.returns-clause-order

@@ -1,7 +1,7 @@
 use Rattle.std.proofs.Common.{arith, length, slice_index_or, refl}
 use Rattle.std.proofs.lemmas.List.Elements.{Contains-get_or}
-use Rattle.derivation.specs.facts.declared.fact.Slot.{Slot}
-use Rattle.derivation.specs.facts.declared.fact.Slot.TheVariants as slot
+use Rattle.facts.specs.declared.fact.Slot.{Slot}
+use Rattle.facts.specs.declared.fact.Slot.TheVariants as slot
 use Rattle.rule_universe.specs.declared.placed.Placed.{Placed}
 use Rattle.rule_universe.proofs.PlacedMore.{placed_start, placed_more, placed_end}
 use Rattle.rule_universe.proofs.placed.add_placed.Goals as goal

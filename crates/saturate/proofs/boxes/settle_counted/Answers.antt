@@ -1,7 +1,7 @@
 use Rattle.std.proofs.Common.{sym, subst, ◌∙◌, ap}
-use Rattle.rule_universe.specs.derivation.Known.{IsTableAt}
-use Rattle.rule_universe.specs.derivation.Settled.{IsState}
-use Rattle.rule_universe.specs.derivation.Decided.{state_in}
+use Rattle.derivation.specs.Known.{IsTableAt}
+use Rattle.derivation.specs.Settled.{IsState}
+use Rattle.derivation.specs.Decided.{state_in}
 use Rattle.saturate.specs.Tables.{fact_at}
 use Rattle.saturate.specs.Universes.{setting_by}
 use Rattle.saturate.specs.Closed.{IsMarked}

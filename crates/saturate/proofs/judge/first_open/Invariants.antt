@@ -1,5 +1,5 @@
 use Rattle.std.proofs.Common.{◌≡◌, drop}
-use Rattle.rule_universe.specs.derivation.Decided.{first_open}
+use Rattle.derivation.specs.Decided.{first_open}
 use Rattle.saturate.specs.Tables.{fact_at}
 use Rattle.saturate.proofs.FirstOpen.{later_by}
 use Rattle.saturate.proofs.judge.first_open.Given as goal

@@ -1,7 +1,7 @@
 use Rattle.std.proofs.Common.{◌≡◌, ◌∙◌, arith, sym, subst, inl, inr}
 use Rattle.std.proofs.lemmas.Option.{slice_get_within}
-use Rattle.rule_universe.specs.facts.CommonParts.{some-inj}
-use Rattle.rule_universe.specs.derivation.Changes.{IsUser}
+use Rattle.facts.specs.CommonParts.{some-inj}
+use Rattle.derivation.specs.Changes.{IsUser}
 use Rattle.saturate.proofs.marks.mark_from.Goals as goal
 
 pub mark_users-requires : goal.mark_users-requires

@@ -1,11 +1,11 @@
 use Rattle.std.proofs.Common.{sym, subst, IsTrue, count_by}
-use Rattle.rule_universe.specs.derivation.Rounds.{IsBestFrom}
+use Rattle.derivation.specs.Rounds.{IsBestFrom}
+use Rattle.derivation.specs.Changes.{IsQuiet}
 use Rattle.saturate.specs.declared.kept.Table.{Table}
 use Rattle.saturate.specs.Tables.{fact_at}
 use Rattle.saturate.specs.Universes.{setting_by}
 use Rattle.saturate.specs.Closed.{IsClosedUnder}
 use Rattle.saturate.specs.Sweeping.{IsWithinFew}
-use Rattle.rule_universe.specs.derivation.Changes.{IsQuiet}
 use Rattle.saturate.proofs.Closed.{said_at}
 use Rattle.saturate.proofs.Working.{said_marked}
 use Rattle.saturate.proofs.rounds.rounds_due.Goals as goal

@@ -1,5 +1,5 @@
 use Rattle.std.proofs.Common.{arith, ◌≡◌, refl, sym, subst, ap, length}
-use Rattle.rule_universe.specs.derivation.Changes.{IsQuiet}
+use Rattle.derivation.specs.Changes.{IsQuiet}
 use Rattle.saturate.specs.Tables.{fact_at}
 use Rattle.saturate.specs.Universes.{setting_by}
 use Rattle.saturate.specs.Lists.{written_back}

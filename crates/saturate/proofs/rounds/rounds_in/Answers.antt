@@ -1,17 +1,16 @@
-use Rattle.std.proofs.Common.{arith, ◌≡◌, None, suc, ◌+◌, ◌-◌, ◌<◌, ◌≤◌, length}
-use Rattle.std.proofs.Common.{sym, ap, subst, ◌∙◌, add-one, refl, count_by, List, Bool, take, drop}
-use Rattle.std.proofs.Common.{◌++◌}
+use Rattle.std.proofs.Common.{arith, ◌≡◌, None, suc, ◌+◌, ◌-◌, ◌<◌, ◌≤◌, length, sym, ap, subst}
+use Rattle.std.proofs.Common.{◌∙◌, add-one, refl, count_by, List, Bool, take, drop, ◌++◌}
 use Rattle.std.proofs.lemmas.Bool.{eqb-true}
 use Rattle.std.proofs.lemmas.List.{length-map}
-use Rattle.rule_universe.specs.facts.declared.fact.Slot.TheVariants as slot
-use Rattle.rule_universe.specs.facts.declared.fact.Fact.TheVariants as fact
-use Rattle.rule_universe.specs.derivation.Derivations.{At, IsBest}
-use Rattle.rule_universe.specs.derivation.Rounds.{InTable}
-use Rattle.rule_universe.specs.derivation.Best.{next_best}
-use Rattle.rule_universe.specs.derivation.Heights.{best_start, best_void, best_same}
-use Rattle.rule_universe.specs.derivation.Changes.{IsQuiet, AreDue, AreUsers, quiet_after}
-use Rattle.rule_universe.specs.derivation.Counted.{touched}
-use Rattle.rule_universe.specs.derivation.Counts.{due_touched}
+use Rattle.facts.specs.declared.fact.Slot.TheVariants as slot
+use Rattle.facts.specs.declared.fact.Fact.TheVariants as fact
+use Rattle.derivation.specs.Derivations.{At, IsBest}
+use Rattle.derivation.specs.Rounds.{InTable}
+use Rattle.derivation.specs.Best.{next_best}
+use Rattle.derivation.specs.Heights.{best_start, best_void, best_same}
+use Rattle.derivation.specs.Changes.{IsQuiet, AreDue, AreUsers, quiet_after}
+use Rattle.derivation.specs.Counted.{touched}
+use Rattle.derivation.specs.Counts.{due_touched}
 use Rattle.rule_universe.specs.declared.placed.Placed.{Placed}
 use Rattle.rule_universe.specs.Placed.{slots_of}
 use Rattle.saturate.specs.Universes.{setting_by}

@@ -1,8 +1,7 @@
-use Rattle.std.proofs.Common.{true, IsTrue, rules, arith, ap, sym, subst}
-use Rattle.std.proofs.Common.{count_by}
+use Rattle.std.proofs.Common.{true, IsTrue, rules, arith, ap, sym, subst, count_by}
 use Rattle.std.proofs.lemmas.List.Sums.{count_by-le-length}
-use Rattle.rule_universe.specs.derivation.Rounds.{IsBestFrom}
-use Rattle.rule_universe.specs.derivation.Changes.{IsQuiet}
+use Rattle.derivation.specs.Rounds.{IsBestFrom}
+use Rattle.derivation.specs.Changes.{IsQuiet}
 use Rattle.saturate.specs.declared.kept.Table.{Table}
 use Rattle.saturate.specs.Tables.{fact_at}
 use Rattle.saturate.specs.Universes.{setting_by}

@@ -1,5 +1,5 @@
 use Rattle.std.proofs.Common.{◌≡◌, ◌≤◌, ◌+◌, length}
-use Rattle.rule_universe.specs.derivation.Derivations.{At}
+use Rattle.derivation.specs.Derivations.{At}
 use Rattle.saturate.specs.Universes.{setting_by}
 use Rattle.saturate.specs.Sweeping.{IsSweeping}
 use Rattle.saturate.proofs.sweep.pass.Given as goal

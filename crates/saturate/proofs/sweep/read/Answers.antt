@@ -1,10 +1,9 @@
-use Rattle.std.proofs.Common.{◌≡◌, ◌+◌, Some, arith, sym, subst, ap, ◌∙◌, inl, inr, drop}
-use Rattle.std.proofs.Common.{slice_get}
+use Rattle.std.proofs.Common.{◌≡◌, ◌+◌, Some, arith, sym, subst, ap, ◌∙◌, inl, inr, drop, slice_get}
 use Rattle.std.specs.List.{Contains}
 use Rattle.std.proofs.lemmas.List.{take_all}
 use Rattle.std.proofs.lemmas.List.Elements.{Contains-get_or}
 use Rattle.std.proofs.lemmas.Option.{get_or_from_slice_get}
-use Rattle.rule_universe.specs.derivation.Rounds.{all_at, with_first}
+use Rattle.derivation.specs.Rounds.{all_at, with_first}
 use Rattle.rule_universe.specs.declared.placed.Placed.{Placed}
 use Rattle.rule_universe.specs.InTurn.{none_left, here, rest_is}
 use Rattle.rule_universe.specs.Placed.{slots_of}

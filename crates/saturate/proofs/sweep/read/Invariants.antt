@@ -1,6 +1,6 @@
 use Rattle.std.proofs.Common.{◌≡◌, ◌≤◌, ℕ, Some, drop, take, slice_get}
 use Rattle.std.specs.List.{Contains}
-use Rattle.rule_universe.specs.derivation.Rounds.{all_at}
+use Rattle.derivation.specs.Rounds.{all_at}
 use Rattle.rule_universe.specs.declared.placed.Placed.{Placed}
 use Rattle.rule_universe.specs.Placed.{slots_of}
 use Rattle.saturate.specs.Gather.{after}

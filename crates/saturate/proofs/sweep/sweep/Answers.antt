@@ -1,6 +1,6 @@
 use Rattle.std.proofs.Common.{◌≡◌, ◌∙◌, IsTrue, rules, arith, ap, sym, subst, length}
+use Rattle.derivation.specs.Changes.{IsQuiet}
 use Rattle.rule_universe.specs.Places.{place_count}
-use Rattle.rule_universe.specs.derivation.Changes.{IsQuiet}
 use Rattle.saturate.specs.Tables.{fact_at}
 use Rattle.saturate.specs.Universes.{setting_by}
 use Rattle.saturate.specs.Sweeping.{NoneDue}

@@ -1,9 +1,9 @@
-use Rattle.std.proofs.Common.{◌≡◌, Some, None, true, arith, sym, ap, subst, suc}
-use Rattle.std.proofs.Common.{length, slice_get, slice_set}
+use Rattle.std.proofs.Common.{◌≡◌, Some, None, true, arith, sym, ap, subst, suc, length, slice_get}
+use Rattle.std.proofs.Common.{slice_set}
 use Rattle.std.proofs.lemmas.Option.{slice_get_within}
-use Rattle.rule_universe.specs.facts.declared.fact.Slot.TheVariants as slot
-use Rattle.rule_universe.specs.facts.Order.{slot_of}
-use Rattle.rule_universe.specs.derivation.Rounds.{Improves}
+use Rattle.facts.specs.declared.fact.Slot.TheVariants as slot
+use Rattle.facts.specs.Order.{slot_of}
+use Rattle.derivation.specs.Rounds.{Improves}
 use Rattle.rule_universe.specs.OnePlace.{place_within}
 use Rattle.saturate.specs.declared.kept.Table.{Table}
 use Rattle.saturate.specs.Tables.{fact_at}

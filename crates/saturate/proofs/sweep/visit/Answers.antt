@@ -1,7 +1,6 @@
-use Rattle.std.proofs.Common.{◌≡◌, ◌≤◌, ◌∙◌, ℕ, Some, arith, sym, ap, subst, length}
-use Rattle.std.proofs.Common.{slice_get}
+use Rattle.std.proofs.Common.{◌≡◌, ◌≤◌, ◌∙◌, ℕ, Some, arith, sym, ap, subst, length, slice_get}
 use Rattle.std.specs.List.{Contains}
-use Rattle.rule_universe.specs.derivation.Rounds.{InTable, all_at, conclusion}
+use Rattle.derivation.specs.Rounds.{InTable, all_at, conclusion}
 use Rattle.rule_universe.specs.declared.placed.Placed.{Placed}
 use Rattle.rule_universe.specs.Placed.{slots_of}
 use Rattle.rule_universe.specs.OnePlace.{place_within}

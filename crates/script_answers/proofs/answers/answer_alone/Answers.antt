@@ -1,5 +1,5 @@
 use Rattle.std.proofs.Common.{ℕ, List, Err, IfOk, ap, subst}
-use Rattle.script_texts.specs.script_grammar.Spells.{View}
+use Rattle.script_grammar.specs.Spells.{View}
 use Rattle.script_answers.specs.Answers.{ProvePrints, options_from}
 use Rattle.script_answers.proofs.answers.answer_alone.Goals as goal
 

@@ -1,7 +1,7 @@
 use Rattle.std.proofs.Common.{◌≡◌, subst, rules, length}
 use Rattle.std.proofs.lemmas.Option.{slice_get_within}
-use Rattle.script_texts.specs.script_grammar.Cases.{cases_of}
-use Rattle.settler.specs.bisect.Gathered.{lines_of}
+use Rattle.script_grammar.specs.Cases.{cases_of}
+use Rattle.bisect.specs.Gathered.{lines_of}
 use Rattle.settler.specs.Answers.{Options, ComesTo, IsUnproved}
 use Rattle.script_answers.specs.Answers.{options_from}
 use Rattle.script_answers.proofs.Answered.{proved_text}

@@ -1,6 +1,6 @@
 use Rattle.std.proofs.Common.{arith}
-use Rattle.script_texts.specs.script_grammar.Cases.{cases_of}
-use Rattle.settler.specs.saturate.Answered.{ok_map}
+use Rattle.script_grammar.specs.Cases.{cases_of}
+use Rattle.saturate.specs.Answered.{ok_map}
 use Rattle.settler.specs.Cases.{as_many}
 use Rattle.script_answers.proofs.Answered.{open_line_in}
 use Rattle.script_answers.proofs.found.open_line.Goals as goal

@@ -1,5 +1,5 @@
 use Rattle.std.proofs.Common.{List, sym, subst}
-use Rattle.script_texts.specs.script_grammar.Cases.{cases_of}
+use Rattle.script_grammar.specs.Cases.{cases_of}
 use Rattle.settler.specs.declared.cases.Case.{Case}
 use Rattle.settler.specs.Cases.{AreCases}
 use Rattle.script_answers.proofs.found.prove_planned.Goals as goal

@@ -1,6 +1,6 @@
 use Rattle.std.proofs.Common.{◌≡◌, Err, ap, rules, ◌∙◌}
+use Rattle.script_grammar.specs.Spells.{View}
 use Rattle.made_script.specs.Script.{script_text}
-use Rattle.script_texts.specs.script_grammar.Spells.{View}
 use Rattle.script_answers.proofs.made.made_text_answer.Goals as goal
 
 pub made_script_answer-requires : goal.made_script_answer-requires

@@ -1,9 +1,8 @@
-use Rattle.std.proofs.Common.{◌≡◌, ◌+◌, suc, [], ◌∷◌, ◌++◌, map}
-use Rattle.std.proofs.Common.{take, sym, ap, ◌∙◌, arith}
+use Rattle.std.proofs.Common.{◌≡◌, ◌+◌, suc, [], ◌∷◌, ◌++◌, map, take, sym, ap, ◌∙◌, arith}
 use Rattle.std.proofs.Math.Seq.{take-suc}
 use Rattle.std.proofs.lemmas.Option.{slice_get_within, get_or_from_slice_get}
-use Rattle.script_meets.specs.script_grammar.Cases.{cases_of}
-use Rattle.script_meets.specs.script_claims.Facts as spec
+use Rattle.script_claims.specs.Facts as spec
+use Rattle.script_grammar.specs.Cases.{cases_of}
 use Rattle.script_checker.proofs.cases.facts_of_cases.Goals as goal
 
 pub loop-number-preserved : goal.loop-number-preserved

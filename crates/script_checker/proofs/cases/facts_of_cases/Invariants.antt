@@ -1,6 +1,6 @@
 use Rattle.std.proofs.Common.{◌≡◌, map, take}
-use Rattle.script_meets.specs.script_grammar.Cases.{cases_of}
-use Rattle.script_meets.specs.script_claims.Facts as spec
+use Rattle.script_claims.specs.Facts as spec
+use Rattle.script_grammar.specs.Cases.{cases_of}
 use Rattle.script_checker.proofs.cases.facts_of_cases.Given as goal
 
 abbrev pub invariant-loop-number : goal.invariant-loop-number

@@ -1,4 +1,4 @@
-use Rattle.cert_checker.specs.cert_bytes.Pieces.{cursor_of}
+use Rattle.cert_bytes.specs.Pieces.{cursor_of}
 use Rattle.script_checker.proofs.Settled.{ClaimLaws}
 use Rattle.script_checker.proofs.Held.{ScriptLaws, checked_held, accepted_so}
 use Rattle.script_checker.proofs.OneSubject.{few_goals, few_marks, count_for, marks_for, checks_for}

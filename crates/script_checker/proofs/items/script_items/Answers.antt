@@ -1,4 +1,4 @@
-use Rattle.cert_checker.specs.cert_bytes.Pieces.{cursor_of}
+use Rattle.cert_bytes.specs.Pieces.{cursor_of}
 use Rattle.cert_checker.specs.Keeping.{lines_of}
 use Rattle.script_checker.proofs.Kept.{accepted_for}
 use Rattle.script_checker.proofs.OneSubject.{few_goals, few_marks, checks_for, exact_for}

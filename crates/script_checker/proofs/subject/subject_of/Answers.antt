@@ -1,5 +1,5 @@
 use Rattle.std.proofs.Common.{◌≡◌, sym, ap, ◌∙◌, subst}
-use Rattle.rewrite_hints.specs.script_hints.declared.hint.HintList.{HintList}
+use Rattle.script_hints.specs.declared.hint.HintList.{HintList}
 use Rattle.rewrite_hints.specs.Marks.{AreKnownSides}
 use Rattle.script_checker.proofs.Named.{sides_named}
 use Rattle.script_checker.proofs.subject.subject_of.Goals as goal

@@ -1,11 +1,11 @@
 use Rattle.std.proofs.Common.{◌≡◌, Err, sym, ◌∙◌, ap, subst}
-use Rattle.goal_spans.specs.script_words.Kept.{words_in}
-use Rattle.goal_spans.specs.script_shape.Roles.{leaves_of}
-use Rattle.node_counts.specs.script_judge.Reading.{Reading}
-use Rattle.node_counts.specs.script_judge.Views.{reading_of}
-use Rattle.node_counts.specs.script_nodes.Waits as waits
-use Rattle.node_counts.specs.script_hints.declared.hint.HintList.{HintList}
+use Rattle.script_words.specs.Kept.{words_in}
+use Rattle.script_shape.specs.Roles.{leaves_of}
 use Rattle.goal_spans.specs.Reading.{spans_read}
+use Rattle.script_judge.specs.Reading.{Reading}
+use Rattle.script_judge.specs.Views.{reading_of}
+use Rattle.script_nodes.specs.Waits as waits
+use Rattle.script_hints.specs.declared.hint.HintList.{HintList}
 use Rattle.script_grammar.specs.Steps.{hinting, read_leaves, start}
 use Rattle.script_grammar.specs.Spells.{IsSpelled}
 use Rattle.script_grammar.specs.Views.{step_of}

@@ -1,10 +1,10 @@
 use Rattle.std.proofs.Common.{arith}
-use Rattle.goal_spans.specs.script_words.Named.{word_of}
-use Rattle.goal_spans.specs.script_words.Kept.{words_in}
+use Rattle.expr_dag.specs.Faults.{passed}
+use Rattle.script_words.specs.Named.{word_of}
+use Rattle.script_words.specs.Kept.{words_in}
 use Rattle.script_grammar.specs.Views.{step_of}
 use Rattle.script_grammar.proofs.StepsGrow.{word_past}
 use Rattle.script_grammar.proofs.stage.read_leaves.Goals as goal
-use Rattle.node_counts.specs.expr_dag.Faults.{passed}
 
 pub returns-in_err-stage-clause-full : goal.returns-in_err-stage-clause-full
 returns-in_err-stage-clause-full c = λ e.

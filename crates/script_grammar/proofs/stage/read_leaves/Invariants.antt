@@ -1,6 +1,6 @@
 use Rattle.std.proofs.Common.{◌≡◌, length}
-use Rattle.goal_spans.specs.script_words.Kept.{words_in}
-use Rattle.goal_spans.specs.script_shape.Roles.{leaves_of}
+use Rattle.script_words.specs.Kept.{words_in}
+use Rattle.script_shape.specs.Roles.{leaves_of}
 use Rattle.script_grammar.specs.Steps as spec
 use Rattle.script_grammar.specs.Views.{step_of}
 use Rattle.script_grammar.proofs.stage.read_leaves.Given as goal

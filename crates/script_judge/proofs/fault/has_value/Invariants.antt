@@ -1,5 +1,5 @@
 use Rattle.std.proofs.Common.{◌≡◌, length}
-use Rattle.script_shape.specs.script_words.Kept.{words_in}
+use Rattle.script_words.specs.Kept.{words_in}
 use Rattle.script_shape.specs.Roles.{leaves_of}
 use Rattle.script_judge.specs.Fault as spec
 use Rattle.script_judge.proofs.fault.has_value.Given as goal

@@ -1,5 +1,5 @@
 use Rattle.std.proofs.Common.{◌∙◌, Some, sym, ap, subst}
-use Rattle.script_shape.specs.script_words.Kept.{all_words}
+use Rattle.script_words.specs.Kept.{all_words}
 use Rattle.script_shape.specs.Roles.{leaves_of}
 use Rattle.script_judge.specs.Reading.{at_word}
 use Rattle.script_judge.specs.Judge.{Judged, nothing_seen}

@@ -1,7 +1,7 @@
 use Rattle.std.proofs.Common.{◌≡◌, nat_lt, not, ◌&&◌, ◌∙◌, ap}
 use Rattle.std.specs.List.{list_any}
-use Rattle.script_shape.specs.script_words.Named.{word_of}
-use Rattle.script_shape.specs.script_words.Kept.{words_in}
+use Rattle.script_words.specs.Named.{word_of}
+use Rattle.script_words.specs.Kept.{words_in}
 use Rattle.script_judge.specs.Names.{split_name}
 use Rattle.script_judge.specs.Bounds.{is_bad_bound}
 use Rattle.script_judge.specs.Splits.{is_rangeless, is_none, is_bad_point}

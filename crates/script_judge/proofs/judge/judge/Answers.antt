@@ -1,9 +1,10 @@
 use Rattle.std.proofs.Common.{◌≡◌, ◌+◌, ◌-◌, ◌∷◌, drop, None, sym, ap, ◌∙◌, subst, arith}
-use Rattle.script_shape.specs.script_words.Named.{word_of}
-use Rattle.script_shape.specs.script_words.Kept.{words_in}
+use Rattle.script_words.specs.Named.{word_of}
+use Rattle.script_words.specs.Kept.{words_in}
 use Rattle.script_shape.specs.Roles.{at, leaves_of}
 use Rattle.script_judge.specs.Counts.{one_if}
-use Rattle.script_judge.specs.Judge.{Judged, none_refused, is_arrow}
+use Rattle.script_judge.specs.Judge.{Judged, none_refused}
+use Rattle.script_judge.specs.Sides.{is_arrow}
 use Rattle.script_judge.specs.BoundViews.{notes_of}
 use Rattle.script_judge.proofs.Judging.{JudgedTo, begin_judging, split_at, same_rest, none_left}
 use Rattle.script_judge.proofs.Judging.{told, told_arrow, behind_arrow, ends_by_form, ends_by_limit}

@@ -1,6 +1,6 @@
 use Rattle.std.proofs.Common.{◌≡◌, length, ap, ◌∙◌, arith}
 use Rattle.std.proofs.lemmas.List.{length-reverse}
-use Rattle.script_shape.specs.script_words.Named.{word_of}
+use Rattle.script_words.specs.Named.{word_of}
 use Rattle.script_cases.specs.Parts.{begun_cases}
 use Rattle.script_judge.specs.Splits.{SplitsSeen}
 use Rattle.script_judge.specs.Judge.{is_past_cases}

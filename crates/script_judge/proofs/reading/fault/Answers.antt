@@ -3,8 +3,8 @@ use Rattle.std.specs.List.{slice_get}
 use Rattle.std.specs.Option.{option_map}
 use Rattle.std.proofs.lemmas.List.{length-take}
 use Rattle.std.proofs.lemmas.Option.{slice_get_within}
-use Rattle.script_shape.specs.script_words.Named.{word_of}
-use Rattle.script_shape.specs.script_words.Kept.{words_in, tokens_in, all_words, all_tokens}
+use Rattle.script_words.specs.Named.{word_of}
+use Rattle.script_words.specs.Kept.{words_in, tokens_in, all_words, all_tokens}
 use Rattle.script_judge.specs.Reading.{fault}
 use Rattle.script_judge.proofs.Faulted.{reading, ends_at, ends_whole}
 use Rattle.script_judge.proofs.reading.fault.Goals as goal

@@ -1,5 +1,5 @@
 use Rattle.std.proofs.Common.{length, sym, ap, subst, arith}
-use Rattle.script_shape.specs.script_words.Kept.{all_words}
+use Rattle.script_words.specs.Kept.{all_words}
 use Rattle.script_shape.specs.ShapeLaw.{IsShapeOf, AreRolesOf}
 use Rattle.script_judge.proofs.Roled.{have_roles}
 use Rattle.script_judge.proofs.reading.read_as_script.Goals as goal

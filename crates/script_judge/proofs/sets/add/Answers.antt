@@ -1,4 +1,4 @@
-use Rattle.script_shape.specs.script_words.Grown.{one_more}
+use Rattle.script_words.specs.Grown.{one_more}
 use Rattle.script_judge.proofs.sets.add.Goals as goal
 
 pub returns : goal.returns

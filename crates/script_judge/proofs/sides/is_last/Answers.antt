@@ -1,5 +1,5 @@
 use Rattle.std.proofs.Common.{sym, ◌∙◌}
-use Rattle.script_shape.specs.script_words.Kept.{words_in}
+use Rattle.script_words.specs.Kept.{words_in}
 use Rattle.script_judge.proofs.LastLeaf.{empty_leaves}
 use Rattle.script_judge.proofs.sides.is_last.Goals as goal
 

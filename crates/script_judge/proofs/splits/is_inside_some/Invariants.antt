@@ -1,7 +1,7 @@
 use Rattle.std.proofs.Common.{◌≡◌, length, map}
 use Rattle.std.specs.List.{list_any}
 use Rattle.std.specs.Option.{option_map}
-use Rattle.script_bounds.specs.dyadic.Values.{value_of as grid_value}
+use Rattle.dyadic.specs.Values.{value_of as grid_value}
 use Rattle.script_judge.specs.Splits as spec
 use Rattle.script_judge.specs.SplitViews.{ends_seen}
 use Rattle.script_judge.proofs.splits.is_inside_some.Given as goal

@@ -1,4 +1,4 @@
-use Rattle.script_shape.specs.script_words.Kept.{words_in}
+use Rattle.script_words.specs.Kept.{words_in}
 use Rattle.script_shape.specs.Roles.{leaves_of}
 use Rattle.script_nodes.proofs.ScriptLeaves.{means_tree}
 use Rattle.script_nodes.proofs.definitions.definitions_of.Goals as goal

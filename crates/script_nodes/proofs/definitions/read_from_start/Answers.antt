@@ -1,9 +1,9 @@
 use Rattle.std.proofs.Common.{sym, ◌∙◌, arith}
-use Rattle.script_shape.specs.script_words.Named.{word_of}
-use Rattle.script_shape.specs.script_words.Kept.{words_in}
+use Rattle.expr_dag.specs.Faults.{passed}
+use Rattle.script_words.specs.Named.{word_of}
+use Rattle.script_words.specs.Kept.{words_in}
 use Rattle.script_nodes.proofs.DefinitionGrows.{word_past}
 use Rattle.script_nodes.proofs.definitions.read_from_start.Goals as goal
-use Rattle.expr_dag.specs.Faults.{passed}
 
 pub returns-in_err-token-clause-full : goal.returns-in_err-token-clause-full
 returns-in_err-token-clause-full c = λ e.

@@ -1,5 +1,5 @@
 use Rattle.std.proofs.Common.{◌≡◌, length}
-use Rattle.script_shape.specs.script_words.Kept.{words_in}
+use Rattle.script_words.specs.Kept.{words_in}
 use Rattle.script_shape.specs.Roles.{leaves_of}
 use Rattle.script_nodes.specs.Known.{nothing_known}
 use Rattle.script_nodes.specs.Defining.{between, define_all}

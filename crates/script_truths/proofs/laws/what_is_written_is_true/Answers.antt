@@ -1,7 +1,7 @@
+use Rattle.facts.specs.Holds.{Holds}
+use Rattle.script_claims.specs.Facts.{facts_all}
+use Rattle.script_claims.specs.Meets.{IsTrueAt}
 use Rattle.script_truths.proofs.Rows.{checked_true, met_true}
-use Rattle.theorem_list.specs.facts.Holds.{Holds}
-use Rattle.box_tree.specs.script_claims.Facts.{facts_all}
-use Rattle.box_tree.specs.script_claims.Meets.{IsTrueAt}
 use Rattle.script_truths.proofs.laws.what_is_written_is_true.Goals as goal
 
 pub returns : goal.returns

@@ -1,11 +1,11 @@
 use Rattle.std.specs.Prelude.{refl}
 use Rattle.fx_model.specs.Expression.{value}
-use Rattle.saturate.specs.facts.declared.fact.Fact.{Fact}
-use Rattle.saturate.specs.facts.Holds.{Holds}
-use Rattle.saturate.specs.derivation.Known.{Known}
-use Rattle.case_trees.specs.box_tree.Plans.{cut_at, pieces_at}
-use Rattle.case_trees.specs.bisect.Trees.{tree_of}
+use Rattle.facts.specs.declared.fact.Fact.{Fact}
+use Rattle.facts.specs.Holds.{Holds}
+use Rattle.derivation.specs.Known.{Known}
 use Rattle.saturate.specs.Universes.{setting_of}
+use Rattle.box_tree.specs.Plans.{cut_at, pieces_at}
+use Rattle.bisect.specs.Trees.{tree_of}
 use Rattle.settler.proofs.Held.{held_leaf}
 use Rattle.settler.proofs.cases.plan_is_lawful.Goals as goal
 

@@ -3,12 +3,11 @@ use Rattle.std.specs.List.{AllByRecursion}
 use Rattle.std.proofs.Common.{arith, sym, ◌∙◌, subst}
 use Rattle.std.proofs.lemmas.List.{take_all}
 use Rattle.std.proofs.lemmas.List.Elements.{recursion_from_All}
-use Rattle.case_trees.specs.script_claims.declared.claim.Claim.{Claim}
-use Rattle.case_trees.specs.script_claims.Facts.{HasNormalBounds}
-use Rattle.script_truths.specs.script_grammar.Cases.{cases_of}
-use Rattle.script_truths.specs.universe.Cases.{AreHypotheses, cases_have_hypotheses}
-use Rattle.script_truths.specs.universe.Cases.{case_has_hypotheses}
-use Rattle.case_trees.specs.box_tree.Root.{plan_by}
+use Rattle.script_claims.specs.declared.claim.Claim.{Claim}
+use Rattle.script_claims.specs.Facts.{HasNormalBounds}
+use Rattle.script_grammar.specs.Cases.{cases_of}
+use Rattle.universe.specs.Cases.{AreHypotheses, cases_have_hypotheses, case_has_hypotheses}
+use Rattle.box_tree.specs.Root.{plan_by}
 use Rattle.settler.specs.declared.cases.Case.{Case}
 use Rattle.settler.specs.Cases.{AreCases, IsCaseOf}
 use Rattle.settler.proofs.Planned.{take_none, take_more, one_more}

@@ -1,5 +1,5 @@
 use Rattle.std.proofs.Common.{take}
-use Rattle.script_truths.specs.script_grammar.Cases.{cases_of}
+use Rattle.script_grammar.specs.Cases.{cases_of}
 use Rattle.settler.specs.Cases.{AreCases}
 use Rattle.settler.proofs.cases.planned_cases.Given as goal
 

@@ -1,5 +1,5 @@
 use Rattle.std.specs.Prelude.{◌++◌, ◌∷◌, []}
-use Rattle.case_trees.specs.box_tree.Plans.{piece_at}
+use Rattle.box_tree.specs.Plans.{piece_at}
 use Rattle.settler.specs.Answers.{plan_of}
 use Rattle.settler.proofs.Fitting.{pieces_are}
 use Rattle.settler.proofs.laws.plans_fit.Goals as goal

@@ -1,5 +1,5 @@
 use Rattle.std.proofs.Common.{arith}
-use Rattle.script_truths.specs.script_grammar.Cases.{cases_of}
+use Rattle.script_grammar.specs.Cases.{cases_of}
 use Rattle.saturate.specs.Answered.{ok_map}
 use Rattle.settler.specs.Answers.{Options, options}
 use Rattle.settler.specs.Cases.{as_many}

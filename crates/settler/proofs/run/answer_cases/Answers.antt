@@ -2,12 +2,12 @@ use Rattle.std.specs.Prelude.{◌≡◌, ◌≤◌, ◌+◌, [], ◌∷◌, Some
 use Rattle.std.specs.List.{AllByRecursion}
 use Rattle.std.proofs.Common.{arith, sym, ◌∙◌, ap, subst, refl}
 use Rattle.std.proofs.lemmas.Option.{slice_get-get_or}
-use Rattle.case_trees.specs.script_claims.Facts.{HasNormalBounds, facts_of}
-use Rattle.saturate.specs.rule_universe.Assumed.{assuming}
-use Rattle.script_truths.specs.universe.Cases.{AreHypotheses}
-use Rattle.script_truths.specs.universe.Universes.{IsUniverse}
-use Rattle.case_trees.specs.box_tree.Plans.{cut_at}
-use Rattle.case_trees.specs.bisect.Trees.{tree_of}
+use Rattle.script_claims.specs.Facts.{HasNormalBounds, facts_of}
+use Rattle.rule_universe.specs.Assumed.{assuming}
+use Rattle.universe.specs.Cases.{AreHypotheses}
+use Rattle.universe.specs.Universes.{IsUniverse}
+use Rattle.box_tree.specs.Plans.{cut_at}
+use Rattle.bisect.specs.Trees.{tree_of}
 use Rattle.case_trees.specs.declared.outcome.CaseOutcome.TheVariants as cases
 use Rattle.case_trees.specs.Gathered.{Seen, EndsAs, IsWithin}
 use Rattle.settler.specs.Cases.{trees_in}

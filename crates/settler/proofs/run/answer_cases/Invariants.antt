@@ -1,8 +1,8 @@
 use Rattle.std.proofs.Common.{◌≡◌, ◌≤◌, List, drop}
-use Rattle.saturate.specs.facts.declared.fact.Fact.{Fact}
-use Rattle.case_trees.specs.script_claims.declared.claim.Claim.{Claim}
-use Rattle.script_truths.specs.universe.Universes.{IsUniverse}
-use Rattle.saturate.specs.rule_universe.Assumed.{assuming}
+use Rattle.facts.specs.declared.fact.Fact.{Fact}
+use Rattle.script_claims.specs.declared.claim.Claim.{Claim}
+use Rattle.rule_universe.specs.Assumed.{assuming}
+use Rattle.universe.specs.Universes.{IsUniverse}
 use Rattle.case_trees.specs.declared.outcome.CaseOutcome.{CaseOutcome}
 use Rattle.case_trees.specs.Gathered.{EndsAs, nothing_seen}
 use Rattle.settler.specs.Cases.{trees_in}

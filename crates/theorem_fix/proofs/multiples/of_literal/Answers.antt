@@ -1,10 +1,10 @@
 use Rattle.std.specs.Prelude.{◌≡◌, ℤ}
 use Rattle.std.proofs.Common.{ap, ◌∙◌, sym, refl, arith}
 use Rattle.std.proofs.lemmas.Int.{ints}
-use Rattle.rounding.specs.fx_model.Expression.{literal_value}
-use Rattle.rounding.specs.fx_model.declared.Literal.{Literal}
-use Rattle.rounding.specs.literal.Normal.{IsFix}
-use Rattle.theorem_arith.specs.facts.Places.{place_from, place_from-some}
+use Rattle.fx_model.specs.Expression.{literal_value}
+use Rattle.fx_model.specs.declared.Literal.{Literal}
+use Rattle.literal.specs.Normal.{IsFix}
+use Rattle.facts.specs.Places.{place_from, place_from-some}
 use Rattle.theorem_fix.specs.Greatest.{greatest_place, greatest_place-is, greatest_place-none}
 use Rattle.theorem_fix.proofs.multiples.of_literal.Goals as goal
 

@@ -1,10 +1,9 @@
 use Rattle.std.specs.Prelude.{◌≡◌, not, refl}
 use Rattle.std.proofs.Common.{◌∙◌}
-use Rattle.rounding.specs.fx_model.Fraction.{Fraction, zero_ℚ}
-use Rattle.rounding.specs.fx_model.Grid.{Bound, Below, At, Above}
-use Rattle.rounding.specs.dyadic.Order.{le_bound}
-use Rattle.rounding.specs.interval.Intervals.{range_of}
-use Rattle.theorem_arith.specs.facts.Ranges.{is_below}
+use Rattle.fx_model.specs.Fraction.{Fraction, zero_ℚ}
+use Rattle.fx_model.specs.Grid.{Bound, Below, At, Above, le_bound}
+use Rattle.interval.specs.Intervals.{range_of}
+use Rattle.facts.specs.Ranges.{is_below}
 use Rattle.theorem_fix.proofs.nonzero.is_positive.Goals as goal
 
 not_at_most : (x : Fraction) (b : Bound) → not (le_bound b (At x)) ≡ is_below x b

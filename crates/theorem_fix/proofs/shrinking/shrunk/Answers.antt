@@ -2,18 +2,18 @@ use Rattle.std.specs.Prelude.{◌≡◌, ◌↔◌, ℤ, Bool, true, false, Opti
 use Rattle.std.specs.Prelude.{refl}
 use Rattle.std.proofs.Common.{sym, ap, ◌∙◌, subst, arith, to_z, of_z, w16, w32}
 use Rattle.std.proofs.lemmas.Int.{ints}
-use Rattle.rounding.specs.fx_model.Fraction.{Fraction}
-use Rattle.rounding.specs.fx_model.Grid.{Bound, Below, At, Above}
-use Rattle.rounding.specs.fx_model.Enclosure.{Range, MultiplesIn, IsEnclosure, IsOrdered}
-use Rattle.rounding.specs.fx_model.Enclosure.{enclosure_unique, ordered_by}
-use Rattle.rounding.specs.fx_model.declared.Direction.TheVariants.{Dn, Up}
-use Rattle.rounding.specs.interval.declared.interval.Interval.{Interval}
-use Rattle.rounding.specs.interval.Intervals.{range_of, same_range}
-use Rattle.rounding.specs.interval.Meets.{are_ordered, are_ordered_in, are_ordered_out}
-use Rattle.rounding.specs.interval.Multiples.{IsEndUp, IsEndDown}
-use Rattle.rounding.specs.interval.Shrunk.{some_multiple, shrunk_is}
+use Rattle.fx_model.specs.Fraction.{Fraction}
+use Rattle.fx_model.specs.Grid.{Bound, Below, At, Above}
+use Rattle.fx_model.specs.Enclosure.{Range, MultiplesIn, IsEnclosure, IsOrdered, enclosure_unique}
+use Rattle.fx_model.specs.Enclosure.{ordered_by}
+use Rattle.fx_model.specs.declared.Direction.TheVariants.{Dn, Up}
+use Rattle.interval.specs.declared.interval.Interval.{Interval}
+use Rattle.interval.specs.Intervals.{range_of, same_range}
+use Rattle.interval.specs.Meets.{are_ordered, are_ordered_in, are_ordered_out}
+use Rattle.interval.specs.Multiples.{IsEndUp, IsEndDown}
+use Rattle.interval.specs.Shrunk.{some_multiple, shrunk_is}
 use Rattle.rounding.specs.Rounded.{rounded_multiple}
-use Rattle.theorem_arith.specs.facts.declared.place.FixPlace.{FixPlace}
+use Rattle.facts.specs.declared.place.FixPlace.{FixPlace}
 use Rattle.theorem_fix.specs.Beside.{rounded_below, rounded_above, multiple_below, multiple_above}
 use Rattle.theorem_fix.specs.Roundings.{rounded_end}
 use Rattle.theorem_fix.specs.Shrunk.{shrunk_range, shrunk_of}

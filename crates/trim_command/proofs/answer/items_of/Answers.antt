@@ -1,9 +1,9 @@
 use Rattle.std.proofs.Common.{IfOk}
-use Rattle.cert_trim.specs.cert_bytes.declared.order.DueItem.TheVariants.{Head}
-use Rattle.cert_trim.specs.cert_bytes.Certificates.{SpellsCertificate}
-use Rattle.cert_trim.specs.cert_bytes.ReadOut.{AreBytes, AreRead}
-use Rattle.cert_trim.specs.cert_checker.Keeping.{lines_of}
-use Rattle.check_command.specs.script_checker.Checking.{ChecksFor}
+use Rattle.cert_bytes.specs.declared.order.DueItem.TheVariants.{Head}
+use Rattle.cert_bytes.specs.Certificates.{SpellsCertificate}
+use Rattle.cert_bytes.specs.ReadOut.{AreBytes, AreRead}
+use Rattle.cert_checker.specs.Keeping.{lines_of}
+use Rattle.script_checker.specs.Checking.{ChecksFor}
 use Rattle.trim_command.proofs.Trimmable.{from_first, led_by_some, trimmable}
 use Rattle.trim_command.proofs.answer.items_of.Goals as goal
 

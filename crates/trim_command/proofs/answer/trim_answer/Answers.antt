@@ -1,6 +1,6 @@
 use Rattle.std.specs.Prelude.{◌≡◌, ◌⊎◌, IsErrOf}
 use Rattle.std.proofs.Common.{ℕ, List, Err, IfOk, ap, subst}
-use Rattle.check_command.specs.script_grammar.Spells.{View}
+use Rattle.script_grammar.specs.Spells.{View}
 use Rattle.trim_command.specs.Writing.{Answers, BreaksOff}
 use Rattle.trim_command.specs.declared.stop.TrimStop.TheVariants as TrimStop
 use Rattle.trim_command.proofs.answer.trim_answer.Goals as goal

@@ -1,11 +1,10 @@
 use Rattle.std.proofs.Common.{ℕ, ◌∙◌, Err, refl, sym, ap, subst, inl}
 use Rattle.fx_edge.specs.Outside.{Rose, rose_later}
-use Rattle.whole_texts.specs.Texts.{IsText}
 use Rattle.command_line.specs.Trim.{trim_of}
-use Rattle.trim_command.proofs.Ends.{put_is, starved_is, stop_is, uncertain_is}
-use Rattle.trim_command.proofs.Ends.{unwritten_is}
-use Rattle.trim_command.proofs.command.run_trim.Goals as goal
+use Rattle.whole_texts.specs.Texts.{IsText}
 use Rattle.command_runs.specs.Ends.{kept_same}
+use Rattle.trim_command.proofs.Ends.{put_is, starved_is, stop_is, uncertain_is, unwritten_is}
+use Rattle.trim_command.proofs.command.run_trim.Goals as goal
 
 pub returns-in-Ok-trim_answer : goal.returns-in-Ok-trim_answer
 returns-in-Ok-trim_answer g c = record {

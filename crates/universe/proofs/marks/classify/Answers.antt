@@ -1,6 +1,6 @@
 use Rattle.std.proofs.Common.{◌≡◌, sym, ap, ◌∙◌, subst}
 use Rattle.std.specs.Prelude.{IfOk}
-use Rattle.rewrite_hints.specs.script_hints.declared.hint.HintList.{HintList}
+use Rattle.script_hints.specs.declared.hint.HintList.{HintList}
 use Rattle.rewrite_hints.specs.Marks.{AreMarks, AreKnownSides}
 use Rattle.universe.proofs.Named.{sides_named}
 use Rattle.universe.proofs.marks.classify.Goals as goal

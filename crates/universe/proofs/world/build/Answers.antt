@@ -1,12 +1,12 @@
 use Rattle.std.proofs.Common.{◌≡◌, [], ◌≤◌, length, arith, sym, ap, ◌∙◌, subst}
 use Rattle.std.specs.Prelude.{All}
 use Rattle.std.proofs.lemmas.List.{length-map}
-use Rattle.script_grammar.specs.script_claims.Facts.{goal_of}
-use Rattle.rewrite_hints.specs.script_hints.declared.hint.HintList.{HintList}
-use Rattle.rewrite_hints.specs.script_hints.Needs.{HasNormalBounds}
-use Rattle.rule_universe.specs.pair_closure.Closure.{AreKnown}
-use Rattle.rewrite_hints.specs.Marks.{AreKnownSides}
+use Rattle.pair_closure.specs.Closure.{AreKnown}
+use Rattle.script_claims.specs.Facts.{goal_of}
+use Rattle.script_hints.specs.declared.hint.HintList.{HintList}
+use Rattle.script_hints.specs.Needs.{HasNormalBounds}
 use Rattle.rule_universe.specs.Worlds.{World}
+use Rattle.rewrite_hints.specs.Marks.{AreKnownSides}
 use Rattle.universe.specs.Universes.{IsUniverse}
 use Rattle.universe.proofs.Named.{starts_known, sides_named}
 use Rattle.universe.proofs.Built.{built, universe_of}

@@ -1,7 +1,7 @@
 use Rattle.std.proofs.Common.{inr, subst, rules}
-use Rattle.report.specs.Certificates.{cert_fault_line}
 use Rattle.command_runs.specs.Ends.{IsPut}
 use Rattle.command_runs.specs.declared.status.Status.TheVariants.{Certificate}
+use Rattle.report.specs.Certificates.{cert_fault_line}
 use Rattle.upgrade_command.proofs.run.print_fault.Goals as goal
 
 pub returns-in-Ok : goal.returns-in-Ok

@@ -1,11 +1,10 @@
 use Rattle.std.proofs.Common.{refl, subst, rules}
-use Rattle.command_runs.specs.Ends.{IsPut}
-use Rattle.command_runs.specs.declared.status.Status.TheVariants.{Certificate}
 use Rattle.command_line.specs.Upgrade.{upgrade_of}
-use Rattle.upgrade_command.proofs.Comes.{whole, caused, done_runs, faulty_runs}
-use Rattle.upgrade_command.proofs.Comes.{long_runs, unread_runs, unwritten_so, starved_so}
+use Rattle.command_runs.specs.Ends.{IsPut, kept_same}
+use Rattle.command_runs.specs.declared.status.Status.TheVariants.{Certificate}
+use Rattle.upgrade_command.proofs.Comes.{whole, caused, done_runs, faulty_runs, long_runs}
+use Rattle.upgrade_command.proofs.Comes.{unread_runs, unwritten_so, starved_so}
 use Rattle.upgrade_command.proofs.run.run_upgrade.Goals as goal
-use Rattle.command_runs.specs.Ends.{kept_same}
 
 pub returns-in-Ok : goal.returns-in-Ok
 returns-in-Ok g c = whole c.items_are_one.ensures (upgrade_of c.args.request) _

@@ -2,6 +2,7 @@ use Rattle.std.proofs.Common.{◌≡◌, ℕ, ◌+◌, List, ◌++◌, length, m
 use Rattle.std.proofs.Common.{rules, arith}
 use Rattle.std.specs.List.{sum_by}
 use Rattle.crossbeam_deque.specs.Handles.{worker_view, worker_port}
+use Rattle.std.proofs.lemmas.List.{length-map}
 use Rattle.box_deques.specs.declared.rule.View.{View}
 use Rattle.box_deques.specs.Rule.{Gone}
 use Rattle.box_deques.specs.Seen as seen
@@ -9,9 +10,7 @@ use Rattle.box_deques.specs.Seen.{AllPasses, GaveBack, takes_on}
 use Rattle.box_deques.proofs.Steps.{tells}
 use Rattle.box_deques.proofs.Emptied.{takes_on_length}
 use Rattle.box_deques.proofs.Ended.{own_below, all_below, counted, history_is, gave_back}
-use Rattle.box_deques.proofs.Ended.{back_whole}
-use Rattle.box_deques.proofs.Ended.{is_ledger}
-use Rattle.std.proofs.lemmas.List.{length-map}
+use Rattle.box_deques.proofs.Ended.{back_whole, is_ledger}
 use Rattle.box_deques.specs.declared.rule.PlacedTask.{PlacedTask}
 use Rattle.box_deques.specs.Close.{writes, writes_all}
 use Rattle.box_deques.proofs.Fill.{ledger_of}

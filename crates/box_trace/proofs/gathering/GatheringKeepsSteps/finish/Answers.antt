@@ -1,5 +1,5 @@
 use Rattle.std.proofs.Common.{◌∙◌, sym, ap, subst}
-use Rattle.saturate.specs.derivation.Derivations.{At}
+use Rattle.derivation.specs.Derivations.{At}
 use Rattle.box_trace.specs.declared.log.Log.{Log}
 use Rattle.box_trace.specs.Tables.{known_at}
 use Rattle.box_trace.specs.Scans.{IsGathered}

@@ -2,11 +2,11 @@ use Rattle.std.specs.Prelude.{◌≡◌, Some, None, refl}
 use Rattle.std.proofs.Common.{sym, ap, ◌∙◌}
 use Rattle.facts.specs.declared.fact.Fact.TheVariants as fact
 use Rattle.facts.specs.declared.fact.Slot.TheVariants as slot
-use Rattle.saturate.specs.derivation.Parts.{none_some}
+use Rattle.facts.specs.CommonParts.{void_is}
+use Rattle.derivation.specs.Parts.{none_some}
 use Rattle.box_trace.specs.Tables.{fact_of, known_at}
 use Rattle.box_trace.proofs.Rows.{read_at}
 use Rattle.box_trace.proofs.known.Known.is_void.Goals as goal
-use Rattle.facts.specs.CommonParts.{void_is}
 
 pub returns-in-Some : goal.returns-in-Some
 returns-in-Some c =

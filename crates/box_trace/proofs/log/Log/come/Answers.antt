@@ -1,7 +1,7 @@
 use Rattle.std.specs.Prelude.{length}
 use Rattle.std.proofs.Common.{sym, ◌∙◌, subst, arith, refl}
-use Rattle.saturate.specs.rule_universe.Worlds.{HasSlot}
-use Rattle.saturate.specs.rule_universe.Places.{IsPlace}
+use Rattle.rule_universe.specs.Worlds.{HasSlot}
+use Rattle.rule_universe.specs.Places.{IsPlace}
 use Rattle.box_trace.proofs.Stepped.{found_slot, stays_done, kept_known, kept_within, step_done}
 use Rattle.box_trace.proofs.log.Log.come.Goals as goal
 

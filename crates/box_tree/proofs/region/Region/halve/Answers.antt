@@ -1,7 +1,7 @@
 use Rattle.std.proofs.Common.{◌≡◌, List, [], ◌∷◌, take, Option, Some, None, IfSome, sym, ap, subst}
 use Rattle.std.proofs.Common.{◌∙◌}
 use Rattle.std.specs.List.{AllByRecursion}
-use Rattle.script_hints.specs.dyadic.declared.number.Dyadic.{Dyadic}
+use Rattle.dyadic.specs.declared.number.Dyadic.{Dyadic}
 use Rattle.box_tree.specs.declared.range.SplitRange.{SplitRange}
 use Rattle.box_tree.specs.Ranges.{IsWithin, range_in}
 use Rattle.box_tree.specs.Regions.{Region}

@@ -1,5 +1,5 @@
 use Rattle.std.proofs.Common.{ap, sym, ◌∙◌}
-use Rattle.accounts.specs.box_tree.Pieces.{piece_count}
+use Rattle.box_tree.specs.Pieces.{piece_count}
 use Rattle.box_workers.proofs.site.Site.laws.Goals as goal
 
 pub returns : goal.returns

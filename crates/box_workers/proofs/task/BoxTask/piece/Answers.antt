@@ -1,6 +1,6 @@
 use Rattle.std.proofs.Common.{◌≡◌, ℕ, List, [], ◌∷◌, ◌++◌, subst, sym, ap, ◌∙◌}
-use Rattle.accounts.specs.box_tree.Paths.{IsPathOf}
-use Rattle.accounts.specs.box_tree.Pieces.{piece_count}
+use Rattle.box_tree.specs.Paths.{IsPathOf}
+use Rattle.box_tree.specs.Pieces.{piece_count}
 use Rattle.box_workers.proofs.Paths.{child_path}
 use Rattle.box_workers.proofs.task.BoxTask.piece.Goals as goal
 

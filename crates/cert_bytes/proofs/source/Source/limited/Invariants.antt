@@ -1,7 +1,7 @@
 use Rattle.std.proofs.Common.{◌≡◌, ◌≤◌, ◌<◌, ◌-◌, ◌^◌, ℕ, List, Some}
+use Rattle.fx_edge.specs.OnlyReads.{OnlyReads}
 use Rattle.cert_bytes.specs.Reading.{limited_at}
 use Rattle.cert_bytes.specs.Pieces.{cursor_of, kept_of}
-use Rattle.fx_edge.specs.OnlyReads.{OnlyReads}
 use Rattle.cert_bytes.specs.Calls.{ReadsOn}
 use Rattle.cert_bytes.proofs.source.Source.limited.Given as goal
 

@@ -1,5 +1,5 @@
-use Rattle.std.proofs.Common.{pos, ◌+ℤ◌}
 use borrow.Author.Differences.{up}
+use Rattle.std.proofs.Common.{pos, ◌+ℤ◌}
 use Rattle.dyadic.specs.Cut.{Dividing}
 use Rattle.dyadic.proofs.cut.LeadingDigits.divided.Given as goal
 

@@ -1,5 +1,5 @@
-use Rattle.std.proofs.Common.{arith, ◌<◌, ◌^◌, rules, refl, w32}
 use mir.Val.{to_z, of_z}
+use Rattle.std.proofs.Common.{arith, ◌<◌, ◌^◌, rules, refl, w32}
 use Rattle.std.proofs.lemmas.Int.{ints}
 use Rattle.dyadic.proofs.CutLemmas.{lengthened_by, lengthened_last, scaled_longer, zero_at}
 use Rattle.dyadic.proofs.cut.LeadingDigits.lengthened.Goals as goal

@@ -1,7 +1,7 @@
-use Rattle.std.proofs.Common.{arith, ap, eq-eqb, w32, w64}
 use borrow.Author.Tests.{eqb-true}
-use Rattle.std.proofs.lemmas.Int.{ints}
 use mir.Val.{of_z}
+use Rattle.std.proofs.Common.{arith, ap, eq-eqb, w32, w64}
+use Rattle.std.proofs.lemmas.Int.{ints}
 use Rattle.dyadic.specs.declared.number.Dyadic.{Dyadic}
 use Rattle.dyadic.specs.Values.{same_value}
 use Rattle.dyadic.proofs.GridLemmas.{same_scaled}

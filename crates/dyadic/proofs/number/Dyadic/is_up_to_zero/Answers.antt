@@ -1,7 +1,7 @@
 use Rattle.std.proofs.Common.{arith}
 use Rattle.std.proofs.lemmas.Int.{ints}
-use Rattle.dyadic.proofs.number.Dyadic.is_up_to_zero.Goals as goal
 use Rattle.fx_model.specs.Powers.{scaled_down, scaled_down_out}
+use Rattle.dyadic.proofs.number.Dyadic.is_up_to_zero.Goals as goal
 
 pub returns : goal.returns
 returns c = (

@@ -1,7 +1,7 @@
-use Rattle.std.proofs.Common.{arith, ap, eq-eqb, w64}
-use Rattle.std.proofs.lemmas.Int.{ints}
 use borrow.Author.Tests.{eqb-true}
 use mir.Val.{of_z}
+use Rattle.std.proofs.Common.{arith, ap, eq-eqb, w64}
+use Rattle.std.proofs.lemmas.Int.{ints}
 use Rattle.dyadic.proofs.GridLemmas.{zero_in, zero_out}
 use Rattle.dyadic.proofs.number.Dyadic.is_zero.Goals as goal
 

@@ -1,5 +1,5 @@
-use Rattle.std.proofs.Common.{arith, ap, ◌∙◌, true, false, sym, w64}
 use mir.Val.{to_z, of_z}
+use Rattle.std.proofs.Common.{arith, ap, ◌∙◌, true, false, sym, w64}
 use Rattle.std.proofs.lemmas.Int.{ints}
 use Rattle.fx_model.specs.Fraction.{neg_ℚ, neg-neg}
 use Rattle.dyadic.specs.Values.{value_of}

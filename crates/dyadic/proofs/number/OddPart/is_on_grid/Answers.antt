@@ -1,5 +1,5 @@
-use Rattle.std.proofs.Common.{arith, pos, ◌+ℤ◌, ◌^◌, ◌/◌, eq-eqb, inl, inr, ⊎_elim}
 use borrow.Author.Tests.{eqb-true}
+use Rattle.std.proofs.Common.{arith, pos, ◌+ℤ◌, ◌^◌, ◌/◌, eq-eqb, inl, inr, ⊎_elim}
 use Rattle.std.proofs.lemmas.Int.{ints}
 use Rattle.dyadic.proofs.GridLemmas.{odd_fits, odd_on_grid, lowest_place, highest_place, room_test}
 use Rattle.dyadic.proofs.GridLemmas.{room_out}

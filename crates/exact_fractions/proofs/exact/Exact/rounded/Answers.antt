@@ -1,6 +1,6 @@
+use lib.IntN.{neg_ℤ}
 use Rattle.std.proofs.Common.{◌≡◌, ap, ◌∙◌, arith, to_z, of_z, pos, ◌-ℤ◌}
 use Rattle.std.specs.Int.{w128, w32}
-use lib.IntN.{neg_ℤ}
 use Rattle.std.proofs.lemmas.Int.{ints}
 use Rattle.fx_model.specs.Powers.{whole}
 use Rattle.exact_fractions.proofs.Rounded.{rounded_given}

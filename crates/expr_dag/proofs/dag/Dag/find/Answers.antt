@@ -1,6 +1,6 @@
 use Rattle.std.proofs.Common.{◌≡◌, Some, None, List, position, slice_get, true≢false, rules, subst}
 use Rattle.std.proofs.Common.{sym, ap, ◌∙◌}
-use Rattle.literal.specs.fx_model.declared.Node.{Node}
+use Rattle.fx_model.specs.declared.Node.{Node}
 use Rattle.expr_dag.specs.Nodes.{same_node, IsAbsent}
 use Rattle.expr_dag.proofs.Places.{found_at, absent_from_position}
 use Rattle.expr_dag.proofs.dag.Dag.find.Goals as goal

@@ -1,9 +1,9 @@
-use Rattle.facts.specs.Parts.{size_from_self, size_from-none}
 use Rattle.std.proofs.Common.{sym, subst}
-use Rattle.interval.specs.fx_model.Fraction.{zero_ℚ}
-use Rattle.interval.specs.fx_model.Grid as grid
-use Rattle.interval.specs.fx_model.Enclosure.{BoundLe}
-use Rattle.interval.specs.dyadic.Ends.{bound_of}
+use Rattle.fx_model.specs.Fraction.{zero_ℚ}
+use Rattle.fx_model.specs.Grid as grid
+use Rattle.fx_model.specs.Enclosure.{BoundLe}
+use Rattle.dyadic.specs.Ends.{bound_of}
+use Rattle.facts.specs.Parts.{size_from_self, size_from-none}
 use Rattle.facts.proofs.size.Size.new.Goals as goal
 
 pub returns-then-is_from_zero-clause-is : goal.returns-then-is_from_zero-clause-is

@@ -1,8 +1,8 @@
 use Rattle.std.specs.Prelude.{◌≡◌, Option, Some, None, IfSome}
 use Rattle.std.proofs.Common.{sym, subst, ap, ◌∙◌}
-use Rattle.interval.specs.Meets.{interval_from}
 use Rattle.dyadic.specs.Extremes.{greater_end}
 use Rattle.dyadic.specs.declared.number.End.{End}
+use Rattle.interval.specs.Meets.{interval_from}
 use Rattle.interval.specs.declared.interval.Interval.{Interval}
 use Rattle.interval.specs.Ends.{range_from}
 use Rattle.interval.specs.Intervals.{range_of}

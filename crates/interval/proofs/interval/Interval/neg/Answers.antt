@@ -1,7 +1,7 @@
-use Rattle.dyadic.specs.fx_model.Enclosure.{Negations}
+use Rattle.fx_model.specs.Enclosure.{Negations}
+use Rattle.dyadic.specs.Made.{grid_bound}
 use Rattle.interval.specs.Results.{negation_only}
 use Rattle.interval.specs.Ends.{range_from}
-use Rattle.dyadic.specs.Made.{grid_bound}
 use Rattle.interval.specs.Intervals.{range_of}
 use Rattle.interval.specs.Enclosures.{negation_exact, negation_ordered, exact_enclosure}
 use Rattle.interval.proofs.interval.Interval.neg.Goals as goal

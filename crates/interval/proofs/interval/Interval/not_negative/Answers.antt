@@ -1,10 +1,10 @@
 use Rattle.std.specs.Prelude.{pos}
 use Rattle.std.proofs.Common.{refl, ◌∙◌, sym, ap}
-use Rattle.dyadic.specs.fx_model.Grid as grid
+use Rattle.fx_model.specs.Grid as grid
+use Rattle.fx_model.specs.Powers.{scaled-zero}
 use Rattle.dyadic.specs.Ends.{same_bound}
 use Rattle.interval.specs.Intervals.{same_ends}
 use Rattle.interval.specs.Results.{half_line}
-use Rattle.dyadic.specs.fx_model.Powers.{scaled-zero}
 use Rattle.interval.proofs.interval.Interval.not_negative.Goals as goal
 
 pub returns : goal.returns

@@ -1,5 +1,5 @@
+use Rattle.fx_model.specs.Fraction.{le_refl}
 use Rattle.dyadic.specs.Values.{value_of}
-use Rattle.dyadic.specs.fx_model.Fraction.{le_refl}
 use Rattle.interval.specs.Results.{alone_is, point_only}
 use Rattle.interval.proofs.interval.Interval.point.Goals as goal
 

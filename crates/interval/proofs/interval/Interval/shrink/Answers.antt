@@ -1,12 +1,12 @@
 use Rattle.std.specs.Prelude.{◌≡◌, Option, Some, None, IfSome}
 use Rattle.std.proofs.Common.{sym, subst, arith, to_z, of_z, w32}
 use Rattle.std.proofs.lemmas.Int.{ints}
-use Rattle.dyadic.specs.fx_model.Fraction.{Fraction}
-use Rattle.dyadic.specs.fx_model.Enclosure.{MultiplesIn, IsEnclosure}
+use Rattle.fx_model.specs.Fraction.{Fraction}
+use Rattle.fx_model.specs.Enclosure.{MultiplesIn, IsEnclosure}
 use Rattle.dyadic.specs.declared.number.End.{End}
+use Rattle.dyadic.specs.Made.{grid_bound}
 use Rattle.interval.specs.declared.interval.Interval.{Interval}
 use Rattle.interval.specs.Ends.{AreEnds, range_from}
-use Rattle.dyadic.specs.Made.{grid_bound}
 use Rattle.interval.specs.Intervals.{range_of}
 use Rattle.interval.specs.Multiples.{IsEndUp, IsEndDown}
 use Rattle.interval.specs.Shrunk.{shrunk_ordered, some_multiple, shrunk_is}

@@ -1,6 +1,6 @@
-use Rattle.dyadic.specs.fx_model.Enclosure.{Sizes}
-use Rattle.interval.specs.Ends.{range_from}
+use Rattle.fx_model.specs.Enclosure.{Sizes}
 use Rattle.dyadic.specs.Made.{grid_bound}
+use Rattle.interval.specs.Ends.{range_from}
 use Rattle.interval.specs.Exact.{IsExact}
 use Rattle.interval.specs.Intervals.{range_of}
 use Rattle.interval.proofs.Pairs.{one_bound}

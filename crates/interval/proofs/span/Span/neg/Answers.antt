@@ -1,4 +1,4 @@
-use Rattle.dyadic.specs.fx_model.Fraction.{neg-le}
+use Rattle.fx_model.specs.Fraction.{neg-le}
 use Rattle.dyadic.specs.Values.{value_of}
 use Rattle.interval.proofs.span.Span.neg.Goals as goal
 

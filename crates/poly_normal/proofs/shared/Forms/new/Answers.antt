@@ -1,5 +1,5 @@
 use Rattle.std.proofs.Common.{sym, subst, ◌<◌, ◌∙◌, List, length}
-use Rattle.expr_dag.specs.fx_model.declared.Node.{Node}
+use Rattle.fx_model.specs.declared.Node.{Node}
 use Rattle.poly_normal.specs.Parts.{AreParts}
 use Rattle.poly_normal.proofs.Tables.{closed_parts, side_marked}
 use Rattle.poly_normal.proofs.shared.Forms.new.Goals as goal

@@ -1,6 +1,5 @@
 use Rattle.std.proofs.Common.{sym, ap, ◌∙◌, arith, take, drop, ◌+◌, ◌-◌, ◌*◌, ◌≡◌, ◌≤◌, length, ◌<◌}
-use Rattle.std.proofs.Common.{rules}
-use Rattle.std.proofs.Common.{length-drop}
+use Rattle.std.proofs.Common.{rules, length-drop}
 use Rattle.std.proofs.lemmas.List.{length-take-le}
 use Rattle.poly_normal.proofs.FlatRows.{length-rows, monomial-rows, row_within}
 use Rattle.poly_normal.proofs.terms.Terms.monomial.Goals as goal

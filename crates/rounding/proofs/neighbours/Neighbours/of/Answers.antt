@@ -1,8 +1,8 @@
+use lib.IntN.{neg_ℤ}
 use Rattle.std.proofs.Common.{◌≡◌, arith, ap, ◌∙◌, ℤ, pos, to_z, of_z, w64}
 use Rattle.std.proofs.lemmas.Int.{ints}
-use lib.IntN.{neg_ℤ}
-use Rattle.interval.specs.fx_model.Powers.{scaled}
-use Rattle.interval.specs.fx_model.Rounded.{floor, near_high}
+use Rattle.fx_model.specs.Powers.{scaled}
+use Rattle.fx_model.specs.Rounded.{floor, near_high}
 use Rattle.rounding.specs.Shifts.{ceiling_by, near_low_by}
 use Rattle.rounding.proofs.neighbours.Neighbours.of.Goals as goal
 

@@ -1,5 +1,5 @@
 use Rattle.std.proofs.Common.{◌≡◌, Some, length, slice_get, subst}
-use Rattle.derivation.specs.facts.declared.instance.Instance.{Instance}
+use Rattle.facts.specs.declared.instance.Instance.{Instance}
 use Rattle.rule_universe.specs.Worlds.{World}
 use Rattle.rule_universe.specs.Placed.{ArePlaced}
 use Rattle.rule_universe.proofs.universe.Universe.premises.Goals as goal

@@ -1,5 +1,5 @@
 use Rattle.std.proofs.Common.{length, arith, ap, subst}
-use Rattle.derivation.specs.facts.declared.fact.Slot.{Slot}
+use Rattle.facts.specs.declared.fact.Slot.{Slot}
 use Rattle.rule_universe.specs.Worlds.{World}
 use Rattle.rule_universe.specs.Places.{IsPlace, place_count}
 use Rattle.rule_universe.specs.Users.{AreUsers}

@@ -1,6 +1,6 @@
 use Rattle.std.proofs.Common.{◌≡◌, ◌∙◌, ◌-◌, Some, None, arith, slice_get, ap, subst}
-use Rattle.rule_universe.specs.facts.Order.{slot_of}
-use Rattle.rule_universe.specs.facts.declared.fact.Fact.TheVariants as fact
+use Rattle.facts.specs.Order.{slot_of}
+use Rattle.facts.specs.declared.fact.Fact.TheVariants as fact
 use Rattle.saturate.specs.Tables.{fact_at, place_of, rel_fact, fix_fact, nzr_fact}
 use Rattle.saturate.proofs.Strong.{got, as_strong, none_strong, mark_strong}
 use Rattle.saturate.proofs.kept.Table.has_as_strong.Goals as goal

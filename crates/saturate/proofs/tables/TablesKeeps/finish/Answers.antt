@@ -1,6 +1,6 @@
 use Rattle.std.proofs.Common.{true, false, length, subst, sym, ◌∙◌, refl}
 use Rattle.std.specs.List.{Contains}
-use Rattle.rule_universe.specs.facts.declared.fact.Slot.TheVariants as slot
+use Rattle.facts.specs.declared.fact.Slot.TheVariants as slot
 use Rattle.saturate.specs.Universes.{setting_by}
 use Rattle.saturate.specs.Tables.{fact_at}
 use Rattle.saturate.proofs.Slots.{room_place, room_found, placed_slot}

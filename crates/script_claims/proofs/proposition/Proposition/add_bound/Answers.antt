@@ -1,5 +1,5 @@
 use Rattle.std.proofs.Common.{sym, subst}
-use Rattle.script_nodes.specs.literal_order.declared.written.Written.{Written}
+use Rattle.literal_order.specs.declared.written.Written.{Written}
 use Rattle.script_claims.specs.Parts.{IsNormalPart}
 use Rattle.script_claims.proofs.NormalParts.{bounded_normal}
 use Rattle.script_claims.proofs.proposition.Proposition.add_bound.Goals as goal

@@ -1,10 +1,10 @@
 use Rattle.std.proofs.Common.{◌<◌, sym, subst}
-use Rattle.goal_spans.specs.script_words.Named.{word_of}
+use Rattle.expr_dag.specs.Faults.{passed}
+use Rattle.script_words.specs.Named.{word_of}
 use Rattle.script_grammar.specs.Steps.{read_word}
 use Rattle.script_grammar.specs.Views.{step_of}
 use Rattle.script_grammar.proofs.StepsGrow.{count, formula_past}
 use Rattle.script_grammar.proofs.stage.Stage.read.Goals as goal
-use Rattle.node_counts.specs.expr_dag.Faults.{passed}
 
 pub returns-in_err-token-in-Formula-clause-full : goal.returns-in_err-token-in-Formula-clause-full
 returns-in_err-token-in-Formula-clause-full c = λ e.

@@ -1,14 +1,14 @@
 use Rattle.std.proofs.Common.{◌≡◌, ◌≤◌, ◌∙◌, sym, ap, subst}
 use Rattle.std.specs.Option.{option_map, option_copied}
-use Rattle.script_bounds.specs.literal_order.Values.{written_value}
-use Rattle.script_shape.specs.script_words.Named.{word_of}
+use Rattle.literal_order.specs.Values.{written_value}
+use Rattle.script_words.specs.Named.{word_of}
+use Rattle.script_cases.specs.Cases.{case_count}
 use Rattle.script_judge.specs.Bounds.{BoundsSeen, bounds_after}
 use Rattle.script_judge.specs.Counts.{counts_after}
 use Rattle.script_judge.specs.Names.{names_after}
 use Rattle.script_judge.specs.Nesting.{opened_after}
 use Rattle.script_judge.specs.Splits.{SplitsSeen, splits_after, ends_between}
 use Rattle.script_judge.specs.SplitViews.{splits_seen, ends_seen}
-use Rattle.script_cases.specs.Cases.{case_count}
 use Rattle.script_judge.specs.FewCases.{few_ended}
 use Rattle.script_judge.specs.BoundViews.{notes_of}
 use Rattle.script_judge.specs.Views.{AreNames}

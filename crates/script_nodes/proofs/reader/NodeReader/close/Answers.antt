@@ -1,6 +1,6 @@
+use Rattle.expr_dag.specs.Faults.{passed}
 use Rattle.script_nodes.proofs.Grows.{closed_past}
 use Rattle.script_nodes.proofs.reader.NodeReader.close.Goals as goal
-use Rattle.expr_dag.specs.Faults.{passed}
 
 pub returns-in_err-x-clause-full : goal.returns-in_err-x-clause-full
 returns-in_err-x-clause-full c = λ e. closed_past c.args.rounds c.args.self.now _

@@ -1,6 +1,6 @@
+use Rattle.expr_dag.specs.Faults.{passed}
 use Rattle.script_nodes.proofs.Grows.{bar_past, call_past, fma_past}
 use Rattle.script_nodes.proofs.reader.NodeReader.enclosed.Goals as goal
-use Rattle.expr_dag.specs.Faults.{passed}
 
 pub returns-in_err-factor-in-Some-Bar-clause-full :
     goal.returns-in_err-factor-in-Some-Bar-clause-full

@@ -1,6 +1,6 @@
+use Rattle.expr_dag.specs.Faults.{passed}
 use Rattle.script_nodes.proofs.Grows.{product_past}
 use Rattle.script_nodes.proofs.reader.NodeReader.fused.Goals as goal
-use Rattle.expr_dag.specs.Faults.{passed}
 
 pub returns-in_err-product-clause-full : goal.returns-in_err-product-clause-full
 returns-in_err-product-clause-full c =

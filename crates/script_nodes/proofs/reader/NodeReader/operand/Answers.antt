@@ -1,6 +1,6 @@
+use Rattle.expr_dag.specs.Faults.{passed}
 use Rattle.script_nodes.proofs.OperandGrows.{literal_past, name_past}
 use Rattle.script_nodes.proofs.reader.NodeReader.operand.Goals as goal
-use Rattle.expr_dag.specs.Faults.{passed}
 
 pub returns-in_err-x-in-Literal-clause-full : goal.returns-in_err-x-in-Literal-clause-full
 returns-in_err-x-in-Literal-clause-full c = λ e.

@@ -1,8 +1,8 @@
+use Rattle.expr_dag.specs.Faults.{passed}
 use Rattle.script_nodes.specs.Known.{put}
 use Rattle.script_nodes.proofs.Faults.{past}
 use Rattle.script_nodes.proofs.Grows.{rounded_grows}
 use Rattle.script_nodes.proofs.reader.NodeReader.operation.Goals as goal
-use Rattle.expr_dag.specs.Faults.{passed}
 
 pub returns-in_err-x-clause-full : goal.returns-in_err-x-clause-full
 returns-in_err-x-clause-full c = λ e.

@@ -1,8 +1,8 @@
 use Rattle.std.proofs.Common.{sym, ap, ◌∙◌}
+use Rattle.expr_dag.specs.Faults.{passed}
 use Rattle.script_nodes.specs.Waits.{Reading}
 use Rattle.script_nodes.proofs.Grows.{minus_past}
 use Rattle.script_nodes.proofs.reader.NodeReader.signed.Goals as goal
-use Rattle.expr_dag.specs.Faults.{passed}
 
 pub returns-in_err-factor-clause-full : goal.returns-in_err-factor-clause-full
 returns-in_err-factor-clause-full c = λ e.

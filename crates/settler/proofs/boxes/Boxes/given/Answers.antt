@@ -1,6 +1,6 @@
 use Rattle.std.proofs.Common.{subst, MatchOption, ◌≡◌, [], ◌∷◌, ◌++◌}
-use Rattle.case_trees.specs.box_tree.Paths.{IsChild}
-use Rattle.case_trees.specs.box_tree.Plans.{pieces_at, piece_at, with_last}
+use Rattle.box_tree.specs.Paths.{IsChild}
+use Rattle.box_tree.specs.Plans.{pieces_at, piece_at, with_last}
 use Rattle.settler.proofs.Along.{child_box, root_pieces}
 use Rattle.settler.proofs.boxes.Boxes.given.Goals as goal
 

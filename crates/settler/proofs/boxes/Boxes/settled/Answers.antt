@@ -1,9 +1,9 @@
 use Rattle.std.proofs.Common.{sym, subst}
 use Rattle.std.specs.Prelude.{IfOk}
-use Rattle.case_trees.specs.box_tree.Plans.{pieces_at}
 use Rattle.saturate.specs.Universes.{setting_of}
 use Rattle.saturate.specs.Closed.{IsMarked, IsMarkedParent}
 use Rattle.saturate.specs.Boxes.{IsOfUniverse, table_of}
+use Rattle.box_tree.specs.Plans.{pieces_at}
 use Rattle.settler.proofs.Along.{same_box, its_table, its_state}
 use Rattle.settler.proofs.boxes.Boxes.settled.Goals as goal
 

@@ -1,12 +1,12 @@
 use Rattle.std.proofs.Common.{◌≡◌, sym, ◌∙◌, ap, subst}
-use Rattle.case_trees.specs.box_tree.Plans.{pieces_at}
-use Rattle.saturate.specs.derivation.Derivations.{IsClosed}
-use Rattle.saturate.specs.derivation.Known.{IsTableAt}
-use Rattle.saturate.specs.rule_universe.Worlds.{World}
+use Rattle.derivation.specs.Derivations.{IsClosed}
+use Rattle.derivation.specs.Known.{IsTableAt}
+use Rattle.rule_universe.specs.Worlds.{World}
 use Rattle.saturate.specs.Tables.{fact_at}
 use Rattle.saturate.specs.Universes.{setting_of}
 use Rattle.saturate.specs.Closed.{IsMarked}
 use Rattle.saturate.specs.Boxes.{table_of, state_of}
+use Rattle.box_tree.specs.Plans.{pieces_at}
 use Rattle.settler.specs.Decided.{goal_facts, state_with}
 use Rattle.settler.proofs.Stands.{stands_as_decided}
 use Rattle.settler.proofs.boxes.Boxes.verdict.Goals as goal

@@ -1,8 +1,8 @@
 use Rattle.std.proofs.Common.{ℕ, List, subst}
-use Rattle.saturate.specs.derivation.Known.{IsTableAt}
+use Rattle.derivation.specs.Known.{IsTableAt}
 use Rattle.saturate.specs.Tables.{fact_at}
 use Rattle.saturate.specs.Universes.{setting_of}
-use Rattle.case_trees.specs.box_tree.Plans.{pieces_at}
+use Rattle.box_tree.specs.Plans.{pieces_at}
 use Rattle.settler.proofs.entry.Entry.table.Goals as goal
 
 pub returns-clause-right : goal.returns-clause-right
