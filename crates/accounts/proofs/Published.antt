@@ -1,13 +1,13 @@
 -- What is published is open, and no settled box is.
 use Rattle.std.proofs.Common.{◌≡◌, ℕ, ◌+◌, ◌≤◌, cond, List, arith}
-use Rattle.box_tree.specs.InRanges.{at_bool}
+use Rattle.box_tree.proofs.InRanges.{at_bool}
 use Rattle.accounts.specs.declared.book.OpenBox.{OpenBox}
 use Rattle.accounts.specs.Paths.{Cuts}
 use Rattle.accounts.specs.Weights.{one, times}
 use Rattle.accounts.specs.Account.{Account, over_open, if_shown}
 use Rattle.accounts.specs.Balance.{IsOpen, IsBalanced}
 use Rattle.accounts.specs.Published.{PublishedAreOpen, BoxesTell}
-use Rattle.accounts.specs.Sums.{one_same}
+use Rattle.accounts.proofs.SumsLaws.{one_same}
 use Rattle.accounts.proofs.Sums.{IsAmong, each_weighs, each_weaker, each_fits, open_le, open_plus}
 use Rattle.accounts.proofs.Sums.{whole_total}
 use Rattle.accounts.proofs.Once.{pushed_once_of_cuts}

@@ -24,17 +24,17 @@ use Rattle.facts.specs.declared.fact.Fact.{Fact}
 use Rattle.facts.specs.declared.fact.Fact.TheVariants as fact
 use Rattle.facts.specs.declared.fact.Slot.TheVariants as slot
 use Rattle.facts.specs.Order.{slot_of, IsStronger}
-use Rattle.facts.specs.Laws.{IsStronger-trans, IsStronger-meet, meet_exists}
+use Rattle.facts.proofs.Laws.{IsStronger-trans, IsStronger-meet, meet_exists}
 use Rattle.facts.specs.Conclusions.{bnd_of}
 use Rattle.derivation.specs.Derivations.{At}
 use Rattle.box_tree.specs.declared.range.SplitRange.{SplitRange}
 use Rattle.box_tree.specs.Ranges.{IsWithin}
 use Rattle.box_tree.specs.Points.{piece_of}
-use Rattle.box_tree.specs.InRanges.{within_at}
+use Rattle.box_tree.proofs.InRanges.{within_at}
 use Rattle.cert_checker.specs.Contexts.{low_end, high_end, piece_fact}
 use Rattle.tree_certificates.specs.Traces.{IsCutTo}
 use Rattle.tree_certificates.specs.Trees.{cut_of, ArePoints}
-use Rattle.tree_certificates.specs.Cited.{differs}
+use Rattle.tree_certificates.proofs.Cited.{differs}
 
 -- ---- the ends of pieces
 else_is : (b : Bool) (x y : End) → b ≡ false → (if b then x else y) ≡ y

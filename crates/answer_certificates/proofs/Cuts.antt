@@ -7,7 +7,8 @@ use Rattle.std.proofs.lemmas.List.{length-append}
 use Rattle.std.proofs.lemmas.Bool.{and_parts}
 use Rattle.fx_model.specs.declared.ExprId.{ExprId}
 use Rattle.dyadic.specs.declared.number.Dyadic.{Dyadic}
-use Rattle.dyadic.specs.Rising.{IsRising, rising_more}
+use Rattle.dyadic.specs.Rising.{IsRising}
+use Rattle.dyadic.proofs.Rising.{rising_more}
 use Rattle.script_hints.specs.declared.hint.Cutting.{Cutting}
 use Rattle.script_hints.specs.declared.hint.Cutting.TheVariants as cutting
 use Rattle.script_hints.specs.declared.hint.Split.{Split}
@@ -20,7 +21,7 @@ use Rattle.box_tree.specs.Points.{is_above_last, with_point, with_points, parts_
 use Rattle.box_tree.specs.Points.{cut_points, middle, half_point}
 use Rattle.box_tree.specs.Regions.{PlanParts, Region, points_in, forced_or, next_forced, half_in}
 use Rattle.box_tree.specs.Regions.{halved_or, next_half, turned, half_of, else_next, next_of}
-use Rattle.box_tree.specs.InRanges.{at_bool, inside_within, above_in, append_within, few_behind}
+use Rattle.box_tree.proofs.InRanges.{at_bool, inside_within, above_in, append_within, few_behind}
 use Rattle.tree_certificates.specs.Trees.{ArePoints}
 
 -- The range of x, in which the points lie; and there are 1 to 63 that rise.

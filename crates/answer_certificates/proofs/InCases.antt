@@ -5,11 +5,11 @@ use Rattle.std.specs.List.{AllByRecursion, flat_map}
 use Rattle.std.proofs.Common.{sym, subst, arith}
 use Rattle.std.proofs.lemmas.List.{length-append}
 use Rattle.std.proofs.lemmas.Nat.{mul-le}
-use Rattle.facts.specs.CommonParts.{all_last}
+use Rattle.facts.proofs.CommonParts.{all_last}
 use Rattle.script_shape.specs.Propositions.{Formula, single, and, or, implies}
 use Rattle.script_shape.specs.Tree.{Script, formula, define}
 use Rattle.script_cases.specs.Cases.{with_first, cases, case_count, all_items}
-use Rattle.script_cases.specs.Counted.{cases_are_counted}
+use Rattle.script_cases.proofs.Counted.{cases_are_counted}
 use Rattle.script_cases.specs.Parts.{part_of}
 use Rattle.script_nodes.specs.Known.{Known}
 use Rattle.script_nodes.specs.Definitions.{definition_value}

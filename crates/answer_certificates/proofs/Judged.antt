@@ -17,7 +17,7 @@ use Rattle.script_claims.specs.Facts.{facts_of}
 use Rattle.script_grammar.specs.Spells.{View}
 use Rattle.script_grammar.specs.Cases.{cases_of}
 use Rattle.rule_universe.specs.Worlds.{World}
-use Rattle.rewrite_hints.specs.Marks.{rows_are_one}
+use Rattle.rewrite_hints.proofs.MarksLaws.{rows_are_one}
 use Rattle.script_truths.specs.Truths.{HasUniverse}
 use Rattle.cert_bytes.specs.Certificates.{HasShortParts}
 use Rattle.cert_checker.specs.declared.subject.Subject.{Subject}

@@ -8,12 +8,14 @@ use Rattle.dyadic.specs.declared.number.Dyadic.{Dyadic}
 use Rattle.dyadic.specs.declared.number.End.{End}
 use Rattle.dyadic.specs.declared.number.End.TheVariants as end
 use Rattle.interval.specs.declared.interval.Interval.{Interval}
-use Rattle.interval.specs.Meets.{interval_from, interval_from_self}
-use Rattle.pair_closure.specs.Reached.{Has, has_contains}
+use Rattle.interval.specs.Meets.{interval_from}
+use Rattle.interval.proofs.Meets.{interval_from_self}
+use Rattle.pair_closure.specs.Reached.{Has}
+use Rattle.pair_closure.proofs.Reached.{has_contains}
 use Rattle.facts.specs.declared.fact.Fact.{Fact}
 use Rattle.facts.specs.declared.fact.Fact.TheVariants as fact
 use Rattle.facts.specs.Order.{is_same}
-use Rattle.facts.specs.CommonParts.{expr_same, same_expr, all_as}
+use Rattle.facts.proofs.CommonParts.{expr_same, same_expr, all_as}
 use Rattle.script_claims.specs.declared.claim.Claim.{Claim}
 use Rattle.script_claims.specs.Facts.{hypothesis_fact, with_fact, facts_of}
 use Rattle.derivation.specs.Derivations.{Setting, given}
@@ -27,7 +29,7 @@ use Rattle.box_tree.specs.Plans.{or_whole, interval_of, last_piece, with_last, p
 use Rattle.box_tree.specs.Plans.{pieces_at, piece_at}
 use Rattle.box_tree.specs.Root.{finite_range, range_by, or_later, split_range, with_range}
 use Rattle.box_tree.specs.Root.{split_ranges}
-use Rattle.box_tree.specs.InRanges.{at_bool, below_append, range_var, finite_out}
+use Rattle.box_tree.proofs.InRanges.{at_bool, below_append, range_var, finite_out}
 use Rattle.cert_checker.specs.Faults.{IsVariable}
 
 -- ---- boxes along paths

@@ -5,12 +5,12 @@ use Rattle.facts.specs.declared.fact.Fact.{Fact}
 use Rattle.facts.specs.declared.fact.Slot.{Slot}
 use Rattle.facts.specs.declared.fact.Fact.TheVariants as fact
 use Rattle.facts.specs.declared.fact.Slot.TheVariants as slot
-use Rattle.facts.specs.Meets.{IsStronger-antisymm}
-use Rattle.facts.specs.CommonParts.{at_option, void_is}
+use Rattle.facts.proofs.Meets.{IsStronger-antisymm}
+use Rattle.facts.proofs.CommonParts.{at_option, void_is}
 use Rattle.goals.specs.declared.goal.Goal.{Goal}
 use Rattle.derivation.specs.Derivations.{Setting, At}
 use Rattle.derivation.specs.Known.{Piece, Known, IsTableAt}
-use Rattle.derivation.specs.Parts.{none_some}
+use Rattle.derivation.proofs.Parts.{none_some}
 use Rattle.derivation.specs.Exists.{table_at}
 use Rattle.bisect.specs.declared.settler.State.{State}
 use Rattle.bisect.specs.declared.settler.State.TheVariants as state

@@ -11,8 +11,8 @@ use Rattle.fx_model.specs.declared.ExprId.{ExprId}
 use Rattle.fx_model.specs.declared.Node.{Node}
 use Rattle.fx_model.specs.declared.Node.TheVariants.{Var}
 use Rattle.expr_dag.specs.Nodes.{IsAt, same_node, numbered, place_of, placed}
-use Rattle.expr_dag.specs.Same.{same}
-use Rattle.pair_closure.specs.Members.{some-inj, none_at, before_last, last_at, ends_with}
+use Rattle.expr_dag.proofs.Same.{same}
+use Rattle.pair_closure.proofs.Members.{some-inj, none_at, before_last, last_at, ends_with}
 use Rattle.script_shape.specs.Tree.{Definition, names_operator, names_value, Script, formula}
 use Rattle.script_shape.specs.Tree.{define}
 use Rattle.script_nodes.specs.Known.{Name, Known, entry_of, put, variable_put, name_put, named}

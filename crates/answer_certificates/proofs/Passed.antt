@@ -20,11 +20,12 @@ use Rattle.script_judge.specs.Splits.{is_rangeless, is_bad_point}
 use Rattle.script_judge.specs.Numbers.{Notes, has_no_pieces, is_past_lsb, is_past_pieces}
 use Rattle.script_judge.specs.Judge.{Seen, seen_after, is_on_wrong_side, is_past_cases, form_kind}
 use Rattle.script_judge.specs.Judge.{form_refusal, limit_kind, limit_refusal, refusal_at, Judged}
-use Rattle.script_judge.specs.Judge.{refused, passed, nothing_seen, fails, both_none}
+use Rattle.script_judge.specs.Judge.{refused, passed, nothing_seen}
+use Rattle.script_judge.proofs.JudgeLaws.{fails, both_none}
 use Rattle.script_judge.specs.Sides.{has_arrow}
 use Rattle.script_judge.specs.Reading.{Reading, IsReadingOf, fault}
-use Rattle.script_judge.specs.First.{IsFirstRefusal, unread, read, refusal_of, second_none}
-use Rattle.script_judge.specs.First.{none_found}
+use Rattle.script_judge.specs.First.{IsFirstRefusal, unread, read, refusal_of}
+use Rattle.script_judge.proofs.FirstLaws.{second_none, none_found}
 use Rattle.script_grammar.specs.Spells.{View, Spells}
 
 -- ---- one word

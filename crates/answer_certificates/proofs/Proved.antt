@@ -32,13 +32,13 @@ use Rattle.box_tree.specs.Pieces.{piece_count}
 use Rattle.box_tree.specs.Regions.{PlanParts, Region, narrowed, next_of, piece_by, piece, region_at}
 use Rattle.box_tree.specs.Plans.{cut_by, cut_at, interval_of, last_piece, with_last, pieces_at}
 use Rattle.box_tree.specs.Plans.{piece_at}
-use Rattle.box_tree.specs.InRanges.{range_var}
+use Rattle.box_tree.proofs.InRanges.{range_var}
 use Rattle.bisect.specs.declared.settler.State.{State}
 use Rattle.bisect.specs.declared.settler.State.TheVariants as state
 use Rattle.bisect.specs.Trees.{tree_of, children, child_count}
 use Rattle.bisect.specs.Trees as bisect
 use Rattle.bisect.specs.Boxes.{open_goal, or_later, first_open, leaf_at, with_leaf, leaves_of}
-use Rattle.bisect.specs.Boxes.{first_none, later_none}
+use Rattle.bisect.proofs.Boxes.{first_none, later_none}
 use Rattle.bisect.specs.Walks.{boxes_from}
 use Rattle.bisect.specs.Walks as walks
 use Rattle.settler.specs.Standing.{StandsAs, AreStates}

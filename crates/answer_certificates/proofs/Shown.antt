@@ -6,13 +6,13 @@ use Rattle.std.proofs.Common.{sym, ◌∙◌, ap, arith}
 use Rattle.facts.specs.declared.fact.Fact.{Fact}
 use Rattle.facts.specs.declared.fact.Fact.TheVariants as fact
 use Rattle.facts.specs.declared.fact.Slot.TheVariants as slot
-use Rattle.facts.specs.CommonParts.{at_option}
+use Rattle.facts.proofs.CommonParts.{at_option}
 use Rattle.goals.specs.declared.goal.Goal.{Goal}
 use Rattle.goals.specs.declared.line.Line.{Line}
 use Rattle.goals.specs.declared.line.Line.TheVariants as line
 use Rattle.derivation.specs.Derivations.{Setting, At}
 use Rattle.derivation.specs.Known.{Piece, IsTableAt}
-use Rattle.derivation.specs.Parts.{none_some}
+use Rattle.derivation.proofs.Parts.{none_some}
 use Rattle.derivation.specs.Exists.{table_at}
 use Rattle.bisect.specs.declared.settler.State.{State}
 use Rattle.bisect.specs.declared.settler.State.TheVariants as state

@@ -9,7 +9,7 @@ use Rattle.fx_model.specs.declared.Node.{Node}
 use Rattle.pair_closure.specs.Reached.{Has}
 use Rattle.pair_closure.specs.Reached.IsReached.{begin}
 use Rattle.pair_closure.specs.Closure.{Pair, difference_of}
-use Rattle.pair_closure.specs.Members.{has_left, has_right}
+use Rattle.pair_closure.proofs.Members.{has_left, has_right}
 use Rattle.facts.specs.declared.fact.Fact.{Fact}
 use Rattle.goals.specs.declared.goal.Goal.{Goal}
 use Rattle.script_words.specs.Lex.{LexesOnce}
@@ -28,8 +28,10 @@ use Rattle.script_grammar.specs.Ranges.{SpelledHaveFewCases}
 use Rattle.script_grammar.specs.Few.{SpelledHaveFewHints, SpelledHaveFewConstraints, constraints_in}
 use Rattle.rule_universe.specs.Worlds.{World, IsSlot, HasSlot, IsWhole}
 use Rattle.universe.specs.Starts.{claim_pairs, claims_pairs, hints_pairs}
-use Rattle.universe.specs.Cases.{AreHypotheses, cases_have_hypotheses}
-use Rattle.universe.specs.Universes.{HypothesesHaveSlots, assumed}
+use Rattle.universe.specs.Cases.{AreHypotheses}
+use Rattle.universe.proofs.Cases.{cases_have_hypotheses}
+use Rattle.universe.specs.Universes.{HypothesesHaveSlots}
+use Rattle.universe.proofs.Universes.{assumed}
 use Rattle.script_truths.specs.Truths.{HasUniverse}
 use Rattle.cert_checker.specs.Faults.{IsVariable}
 use Rattle.answer_certificates.specs.Scripts.{in_case, IsCaseOf, IsBuilt, ScriptsHaveRoom}

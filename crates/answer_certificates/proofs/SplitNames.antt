@@ -9,7 +9,7 @@ use Rattle.std.proofs.lemmas.Bool.{or_right}
 use Rattle.fx_model.specs.declared.ExprId.{ExprId}
 use Rattle.fx_model.specs.declared.Node.{Node}
 use Rattle.fx_model.specs.declared.Node.TheVariants.{Var}
-use Rattle.facts.specs.CommonParts.{all_as, all_last}
+use Rattle.facts.proofs.CommonParts.{all_as, all_last}
 use Rattle.script_words.specs.declared.class.Symbol.TheVariants as s
 use Rattle.script_words.specs.Words.{Word, name, rounding, sign}
 use Rattle.script_shape.specs.declared.due.Due.{Due}
@@ -23,9 +23,9 @@ use Rattle.script_shape.specs.Roles.{Leaf, at, name_leaves, operator_leaves, exp
 use Rattle.script_shape.specs.Roles.{cut_leaves, names_leaves, halving_leaves, hint_leaves}
 use Rattle.script_shape.specs.Roles.{hints_leaves, how_leaves, formula_leaves, definition_leaves}
 use Rattle.script_shape.specs.Roles.{script_leaves}
-use Rattle.script_shape.specs.Inner.{EachRole, IsInner, each_of_both, each_as, operator_roles}
-use Rattle.script_shape.specs.Inner.{expr_inner}
-use Rattle.script_cases.specs.Lists.{all_front, all_behind}
+use Rattle.script_shape.proofs.Inner.{EachRole, IsInner, each_of_both, each_as, operator_roles}
+use Rattle.script_shape.proofs.Inner.{expr_inner}
+use Rattle.script_cases.proofs.Lists.{all_front, all_behind}
 use Rattle.script_judge.specs.Names.{is_among, is_some_among, with_some, ended, pending_after}
 use Rattle.script_judge.specs.Names.{defines, split_name}
 use Rattle.script_judge.specs.Judge.{Seen, seen_after, Judged, nothing_seen}

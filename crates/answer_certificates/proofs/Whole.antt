@@ -9,7 +9,7 @@ use Rattle.fx_model.specs.declared.Node.{Node}
 use Rattle.fx_model.specs.declared.Node.TheVariants.{Var}
 use Rattle.facts.specs.declared.hint.HintRow.{HintRow}
 use Rattle.facts.specs.declared.instance.Instance.{Instance}
-use Rattle.facts.specs.CommonParts.{at_option}
+use Rattle.facts.proofs.CommonParts.{at_option}
 use Rattle.theorem_list.specs.Concludes.{concludes}
 use Rattle.script_hints.specs.Few.{HaveFewPieces}
 use Rattle.derivation.specs.Lists.{IsLawful}
@@ -23,7 +23,7 @@ use Rattle.box_tree.specs.declared.cut.Cut.{Cut}
 use Rattle.box_tree.specs.Pieces.{piece_count}
 use Rattle.box_tree.specs.Regions.{PlanParts, region_below, region_at}
 use Rattle.box_tree.specs.Plans.{cut_at, pieces_at}
-use Rattle.box_tree.specs.InRanges.{root_pieces}
+use Rattle.box_tree.proofs.InRanges.{root_pieces}
 use Rattle.bisect.specs.declared.settler.State.{State}
 use Rattle.bisect.specs.declared.outcome.Leaf.{Leaf}
 use Rattle.bisect.specs.declared.outcome.Outcome.{Outcome}

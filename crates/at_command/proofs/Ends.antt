@@ -6,16 +6,16 @@ use Rattle.command_line.specs.At.{AskedAt}
 use Rattle.whole_texts.specs.Texts.{IsText}
 use Rattle.whole_texts.specs.declared.read.ReadStop.{ReadStop}
 use Rattle.whole_texts.specs.declared.read.ReadStop.TheVariants as stop
-use Rattle.command_runs.specs.Ends.{IsOnce, IsPutBy, IsStopPutBy, or_unread, put_runs, run_by}
-use Rattle.command_runs.specs.Ends.{stop_runs, unread_kept, unread_once}
+use Rattle.command_runs.proofs.Ends.{IsOnce, IsPutBy, IsStopPutBy, or_unread, put_runs, run_by}
+use Rattle.command_runs.proofs.Ends.{stop_runs, unread_kept, unread_once}
 use Rattle.command_runs.specs.Fates.{AreTold, IsKeptFile, IsTold, MayWrite, Runs, ending}
 use Rattle.command_runs.specs.Fates.Ending.{Done}
 use Rattle.command_runs.specs.Fates.Left.{Kept}
 use Rattle.command_runs.specs.Runs.{Bytes, Run, IsKept, ReadFailed}
 use Rattle.command_runs.specs.declared.status.Status.{Status}
 use Rattle.command_runs.specs.declared.status.Status.TheVariants as status
-use Rattle.script_texts.specs.Texts.{IsLong, ReadsBehind, long_refused, no_script, told_script}
-use Rattle.script_texts.specs.Texts.{told_text}
+use Rattle.script_texts.proofs.Texts.{IsLong, long_refused, no_script, told_script, told_text}
+use Rattle.script_texts.specs.Texts.{ReadsBehind}
 use Rattle.at_command.specs.Told.{AtPrints}
 use Rattle.at_command.specs.Command.{AtFate, AtTold, IsAtRun}
 use Rattle.at_command.specs.Laws.{AtAnswersAreOne, IsPointTold}

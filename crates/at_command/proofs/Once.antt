@@ -4,7 +4,7 @@ use Rattle.std.proofs.lemmas.Option.{none-some}
 use Rattle.script_judge.specs.First.{FirstsAreUnique}
 use Rattle.script_grammar.specs.Spells.{View, SpellsOnce}
 use Rattle.script_grammar.specs.Spells as script
-use Rattle.rewrite_hints.specs.Marks.{marks_are_one}
+use Rattle.rewrite_hints.proofs.MarksLaws.{marks_are_one}
 use Rattle.point_values.specs.Rows.{Row, assignment_of}
 use Rattle.point_values.specs.Evaluation.{IsTooWide, evaluation_of}
 use Rattle.point_values.specs.declared.place.Place.{Place}
@@ -14,7 +14,8 @@ use Rattle.command_runs.specs.Runs.{Bytes}
 use Rattle.command_runs.specs.Fates.{IsTold}
 use Rattle.command_runs.specs.declared.status.Status.{Status}
 use Rattle.command_runs.specs.declared.status.Status.TheVariants as status
-use Rattle.script_texts.specs.Texts.{IsRefusedWith, refused_once}
+use Rattle.script_texts.specs.Texts.{IsRefusedWith}
+use Rattle.script_texts.proofs.Texts.{refused_once}
 use Rattle.at_command.specs.Lines.{point_line, wide_line}
 use Rattle.at_command.specs.Told.{AtPrints, IsEvaluated, IsWide, OfPoint, PointTells}
 use Rattle.at_command.specs.Laws.{AtAnswersAreOne, IsPointTold}

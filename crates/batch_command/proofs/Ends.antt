@@ -2,7 +2,8 @@
 use Rattle.std.specs.Prelude.{◌≡◌, None, refl}
 use Rattle.command_line.specs.Batch.{AskedBatch}
 use Rattle.name_list.specs.Lists.{FaultsAreOne}
-use Rattle.command_runs.specs.Ends.{IsPutBy, put_runs, run_by, starved_of, unread_kept, unread_once}
+use Rattle.command_runs.proofs.Ends.{IsPutBy, put_runs, run_by, starved_of, unread_kept}
+use Rattle.command_runs.proofs.Ends.{unread_once}
 use Rattle.command_runs.specs.Fates.{IsKeptFile, MayWrite, Runs, ending}
 use Rattle.command_runs.specs.Fates.Ending.{Done}
 use Rattle.command_runs.specs.Fates.Left.{Kept}

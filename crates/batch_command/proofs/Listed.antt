@@ -5,7 +5,8 @@ use Rattle.std.specs.declared.vec.Vec.{Vec}
 use Rattle.std.specs.declared.alloc.Global.{Global}
 use Rattle.std.proofs.Common.{◌∙◌, ap, arith, sym, subst, inr, ℕ, suc}
 use Rattle.std.proofs.lemmas.List.{length-take}
-use Rattle.fx_edge.specs.Outside.{Rose, rose_later}
+use Rattle.fx_edge.specs.Outside.{Rose}
+use Rattle.fx_edge.proofs.OutsideLaws.{rose_later}
 use Rattle.settler.specs.Answers.{Options}
 use Rattle.command_line.specs.Batch.{AskedBatch}
 use Rattle.name_list.specs.declared.fault.ListFault.{ListFault}
@@ -18,7 +19,7 @@ use Rattle.command_runs.specs.Fates.Ending.{Done}
 use Rattle.command_runs.specs.declared.status.Status.{Status}
 use Rattle.command_runs.specs.declared.status.Status.TheVariants as status
 use Rattle.script_answers.specs.Answers.{ProvePrints}
-use Rattle.script_answers.specs.Texts.{told_prints}
+use Rattle.script_answers.proofs.Texts.{told_prints}
 use Rattle.batch_command.specs.Command.{IsBatch, first_other, options_of}
 use Rattle.batch_command.specs.Lines.{list_fault_line}
 use Rattle.batch_command.specs.Told.{AreAnswers, AreRead, Prints, ScriptsPrint, lines_under}

@@ -5,7 +5,7 @@ use Rattle.settler.specs.Answers.{Options}
 use Rattle.command_line.specs.Batch.{AskedBatch}
 use Rattle.name_list.specs.declared.fault.ListFault.{ListFault}
 use Rattle.name_list.specs.Lists.{FaultsAreOne, IsFaultOf, lines_of}
-use Rattle.command_runs.specs.Ends.{IsOnce}
+use Rattle.command_runs.proofs.Ends.{IsOnce}
 use Rattle.command_runs.specs.Fates.{AreTold, IsTold}
 use Rattle.command_runs.specs.Runs.{Bytes, Told}
 use Rattle.command_runs.specs.declared.status.Status.{Status}

@@ -15,11 +15,12 @@ use Rattle.goals.specs.Holds.{LineHolds, IsOfGoal, LineHoldsFirst, LineHoldsOn}
 use Rattle.bisect.specs.declared.settler.State.{State}
 use Rattle.bisect.specs.declared.settler.State.TheVariants as state
 use Rattle.bisect.specs.declared.outcome.Leaf.{Leaf}
-use Rattle.bisect.specs.Trees.{Tree, child_count, IsBox, IsLeaf, IsShallow}
+use Rattle.bisect.specs.Trees.{Tree, child_count, IsBox, IsLeaf}
+use Rattle.bisect.proofs.Trees.{IsShallow}
 use Rattle.bisect.specs.Boxes.{AreBoxes, first_open, leaves_of, leaf_at, with_leaf, open_goal}
 use Rattle.bisect.specs.Boxes.{or_later}
 use Rattle.bisect.specs.Gathered.{with_known, with_state, line_with, line_of, IsTrueState}
-use Rattle.bisect.specs.Keeping.{leaves_keep}
+use Rattle.bisect.proofs.Keeping.{leaves_keep}
 use Rattle.bisect.proofs.Paths.{root_path, child_path}
 use Rattle.bisect.proofs.Listings.{Has, from_contains}
 

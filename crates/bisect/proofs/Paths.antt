@@ -1,7 +1,8 @@
 -- Paths of a plan.
 use Rattle.std.specs.Prelude.{◌≡◌, ◌<◌, ℕ, List, [], ◌∷◌, ◌++◌, refl}
 use Rattle.std.proofs.Common.{ap, subst, arith}
-use Rattle.box_tree.specs.Paths.{IsPathOf, no_more}
+use Rattle.box_tree.specs.Paths.{IsPathOf}
+use Rattle.box_tree.proofs.Paths.{no_more}
 
 -- the root is a path of every plan
 pub root_path : (pieces : List ℕ → ℕ) → IsPathOf pieces []

@@ -9,7 +9,8 @@ use Rattle.std.proofs.lemmas.Cmp.{nat_list_cmp_total}
 use Rattle.bisect.specs.declared.outcome.Outcome.{Outcome}
 use Rattle.bisect.specs.declared.outcome.Outcome.TheVariants as outcome
 use Rattle.bisect.specs.Trees.{Tree}
-use Rattle.bisect.specs.Boxes.{IsBefore, AreBoxes, first_open, not_some}
+use Rattle.bisect.specs.Boxes.{IsBefore, AreBoxes, first_open}
+use Rattle.bisect.proofs.Boxes.{not_some}
 use Rattle.bisect.specs.Answers.{IsAnswer, IsAnswerOf}
 use Rattle.bisect.proofs.Listings.{Has, from_contains, to_contains}
 

@@ -3,5 +3,4 @@ pub mod Boxes
 pub mod Answers
 pub mod Walks
 pub mod Gathered
-pub mod Keeping
 pub mod Examples

@@ -7,3 +7,4 @@ pub mod Emptied
 pub mod Ended
 pub mod Passes
 pub mod Moments
+pub mod Stealing

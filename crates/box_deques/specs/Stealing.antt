@@ -1,26 +1,8 @@
 -- Which lanes a hand can steal from.
 use Rattle.std.specs.Prelude.{◌≢◌, ℕ, List, All}
-use Rattle.std.proofs.Common.{sym, ◌∙◌, arith}
-use Rattle.std.proofs.lemmas.List.Elements.{All-weaker}
-use Rattle.box_deques.specs.Moments.{SamePasses}
 use Rattle.box_deques.specs.Seen.{Thief, Hand, HasPass}
 
 -- the hand can steal through each of these, which are thieves of other lanes
 abbrev pub CanSteal : ℕ → Hand → List Thief → Type 0
 CanSteal capacity hand thieves = All (λ (t : Thief).
     HasPass hand.seats t.number t.name capacity × (hand.number ≢ t.number)) thieves
-
--- a hand that keeps its passes can go on to
-pub can_steal_stays : (capacity : ℕ) (old new : Hand) (thieves : List Thief) → SamePasses old new
-    → CanSteal capacity old thieves → CanSteal capacity new thieves
-can_steal_stays capacity old new thieves same can =
-    All-weaker (λ (t : Thief). HasPass old.seats t.number t.name capacity × (old.number ≢ t.number))
-    (λ (t : Thief). HasPass new.seats t.number t.name capacity × (new.number ≢ t.number))
-    (λ t (has, other). (
-      (
-        let l = same.long in let b = has.0 in omega arith,
-        same.lanes t.number ∙ has.1,
-        same.rooms t.number ∙ has.2,
-      ),
-      λ e. other (sym same.number ∙ e),
-    )) thieves can

@@ -9,16 +9,19 @@ use Rattle.facts.specs.declared.fact.Fact.{Fact}
 use Rattle.facts.specs.declared.fact.Slot.{Slot}
 use Rattle.facts.specs.declared.instance.Instance.{Instance}
 use Rattle.facts.specs.Order.{slot_of}
-use Rattle.facts.specs.CommonParts.{all_as, all_last}
+use Rattle.facts.proofs.CommonParts.{all_as, all_last}
 use Rattle.theorem_list.specs.Concludes.{concludes}
-use Rattle.derivation.specs.Rounds.{Reads, conclusion}
-use Rattle.derivation.specs.Parts.{slot_cases, none_some, conclusion_reads}
+use Rattle.derivation.proofs.Rounds.{Reads}
+use Rattle.derivation.specs.Rounds.{conclusion}
+use Rattle.derivation.specs.Parts.{slot_cases}
+use Rattle.derivation.proofs.Parts.{none_some, conclusion_reads}
 use Rattle.rule_universe.specs.Worlds.{World}
 use Rattle.rule_universe.specs.declared.placed.Placed.{Placed}
 use Rattle.cert_bytes.specs.declared.item.StepRow.{StepRow}
 use Rattle.cert_checker.specs.declared.given.Given.{Given}
-use Rattle.cert_checker.specs.Given.{given_number, given_of, given_back}
-use Rattle.tree_certificates.specs.Cited.{mapped}
+use Rattle.cert_checker.specs.Given.{given_number, given_of}
+use Rattle.cert_checker.proofs.GivenLaws.{given_back}
+use Rattle.tree_certificates.proofs.Cited.{mapped}
 use Rattle.tree_certificates.specs.Coming.{coming}
 use Rattle.box_trace.specs.declared.known.Cited.{Cited}
 use Rattle.box_trace.specs.declared.known.Known.{Known}

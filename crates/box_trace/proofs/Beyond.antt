@@ -12,7 +12,7 @@ use Rattle.facts.specs.Order.{slot_of}
 use Rattle.theorem_list.specs.Concludes.{concludes}
 use Rattle.derivation.specs.Derivations.{At}
 use Rattle.derivation.specs.Lists.{IsOnTargetList}
-use Rattle.derivation.specs.Parts.{conclusion_reads}
+use Rattle.derivation.proofs.Parts.{conclusion_reads}
 use Rattle.rule_universe.specs.Worlds.{World}
 use Rattle.rule_universe.specs.Places.{IsPlace}
 use Rattle.rule_universe.specs.Sizes.{beyond_four}

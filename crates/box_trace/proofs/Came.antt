@@ -12,20 +12,21 @@ use Rattle.facts.specs.declared.fact.Fact.TheVariants as fact
 use Rattle.facts.specs.declared.fact.Slot.TheVariants as slot
 use Rattle.facts.specs.declared.instance.Instance.{Instance}
 use Rattle.facts.specs.Order.{slot_of, IsStronger}
-use Rattle.facts.specs.CommonParts.{at_option, void_is}
+use Rattle.facts.proofs.CommonParts.{at_option, void_is}
 use Rattle.theorem_list.specs.Concludes.{concludes}
 use Rattle.derivation.specs.Derivations.{At}
 use Rattle.derivation.specs.Lists.{IsOnTargetList}
 use Rattle.derivation.specs.Rounds.{IsProper, Improves, IsAhead, IsSame, AllSeen}
 use Rattle.derivation.specs.Changes.{IsListed}
-use Rattle.derivation.specs.Parts.{some_same, none_some, slot_cases, void_alone}
-use Rattle.derivation.specs.Steps.{improved_slot, improved_stronger, old_no_void}
-use Rattle.derivation.specs.Ahead.{ahead_begin, ahead_step, ahead_void}
+use Rattle.derivation.proofs.Parts.{some_same, none_some, void_alone}
+use Rattle.derivation.specs.Parts.{slot_cases}
+use Rattle.derivation.proofs.Steps.{improved_slot, improved_stronger, old_no_void}
+use Rattle.derivation.proofs.Ahead.{ahead_begin, ahead_step, ahead_void}
 use Rattle.rule_universe.specs.declared.placed.Placed.{Placed}
 use Rattle.rule_universe.specs.Worlds.{World}
 use Rattle.rule_universe.specs.Placed.{slots_of, IsPlaced}
 use Rattle.rule_universe.specs.Sizes.{beyond_four}
-use Rattle.rule_universe.specs.OnePlace.{slot_once}
+use Rattle.rule_universe.proofs.OnePlace.{slot_once}
 use Rattle.saturate.specs.Universes.{setting_of}
 use Rattle.tree_certificates.specs.Sections.{behind, ArePlaces}
 use Rattle.tree_certificates.specs.Writing.{IsWritable}
@@ -34,7 +35,8 @@ use Rattle.box_trace.specs.declared.log.Log.{Log}
 use Rattle.box_trace.specs.declared.ends.Found.{Found}
 use Rattle.box_trace.specs.declared.ends.Ends.{Ends}
 use Rattle.box_trace.specs.Tables.{known_at, place_in, HasRows}
-use Rattle.box_trace.specs.Scans.{IsConclusion, ends_in, AreEndsOf, IsWide, most_for}
+use Rattle.box_trace.specs.Scans.{IsConclusion, ends_in, AreEndsOf, IsWide}
+use Rattle.box_trace.proofs.Scans.{most_for}
 use Rattle.box_trace.specs.Rounds.{AddsSteps}
 use Rattle.box_trace.specs.Logs.{Comes, CanCite, GoesOnFrom, IsLonger, IsComeBy, IsSlotWritten}
 use Rattle.box_trace.specs.Logs.{IsRound, more_by}

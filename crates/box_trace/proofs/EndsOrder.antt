@@ -6,7 +6,8 @@ use Rattle.std.proofs.Common.{◌∙◌, arith, rules}
 use Rattle.std.proofs.lemmas.Int.{ints}
 use Rattle.fx_model.specs.Grid.{le_bound, Bound}
 use Rattle.fx_model.specs.Enclosure.{BoundLe}
-use Rattle.dyadic.specs.Extremes.{BoundLe-trans, BoundLe-refl}
+use Rattle.dyadic.proofs.Extremes.{BoundLe-trans}
+use Rattle.dyadic.specs.Extremes.{BoundLe-refl}
 use Rattle.dyadic.specs.Order.{bound_total}
 use Rattle.dyadic.specs.Compared.{BoundLe_in}
 use Rattle.interval.specs.declared.interval.Interval.{Interval}

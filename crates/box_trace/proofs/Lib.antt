@@ -15,3 +15,5 @@ pub mod Started
 pub mod Given
 pub mod Steps
 pub mod Short
+pub mod RoundsLaws
+pub mod Scans

@@ -10,26 +10,31 @@ use Rattle.facts.specs.declared.instance.Instance.{Instance}
 use Rattle.facts.specs.Order.{slot_of, IsStronger}
 use Rattle.theorem_list.specs.Concludes.{concludes}
 use Rattle.derivation.specs.Derivations.{At}
-use Rattle.derivation.specs.Rounds.{IsProper, Reads, conclusion, IsKept, Improves}
-use Rattle.derivation.specs.Parts.{some_same, slot_cases, conclusion_reads}
-use Rattle.derivation.specs.Steps.{improved_proper}
-use Rattle.derivation.specs.Exists.{joined, with_fact-improves}
+use Rattle.derivation.specs.Rounds.{IsProper, conclusion, IsKept, Improves}
+use Rattle.derivation.proofs.Rounds.{Reads}
+use Rattle.derivation.proofs.Parts.{some_same, conclusion_reads}
+use Rattle.derivation.specs.Parts.{slot_cases}
+use Rattle.derivation.proofs.Steps.{improved_proper}
+use Rattle.derivation.specs.Exists.{joined}
+use Rattle.derivation.proofs.Exists.{with_fact-improves}
 use Rattle.rule_universe.specs.Worlds.{World}
 use Rattle.saturate.specs.Universes.{setting_of}
 use Rattle.cert_bytes.specs.declared.item.StepRow.{StepRow}
 use Rattle.cert_bytes.specs.Certificates.{IsCounted, IsShort}
 use Rattle.cert_checker.specs.Open.{Numbered, with_step}
 use Rattle.cert_checker.specs.declared.given.Given.{Given}
-use Rattle.cert_checker.specs.Given.{given_number, given_low}
+use Rattle.cert_checker.specs.Given.{given_number}
+use Rattle.cert_checker.proofs.GivenLaws.{given_low}
 use Rattle.cert_checker.specs.Steps.{step_fact, step_facts, gives, gives_by, met_with, IsEnough}
 use Rattle.cert_checker.specs.Steps.{IsConcluded, target_of}
 use Rattle.tree_certificates.specs.Sections.{behind, AreAccepted, ArePlaces}
 use Rattle.tree_certificates.specs.Writing.{IsSlotKnown, IsWritable, givens_of}
 use Rattle.tree_certificates.specs.Traces.{HaveFields}
-use Rattle.tree_certificates.specs.Cited.{step_kept, step_new, below_behind, behind_both}
-use Rattle.tree_certificates.specs.Cited.{accepted_both, premises_found, fields_more, mapped}
-use Rattle.tree_certificates.specs.Cited.{reads_length}
-use Rattle.tree_certificates.specs.Coming.{aims, enough, coming_accepted, met_by, coming}
+use Rattle.tree_certificates.proofs.Cited.{step_kept, step_new, below_behind, behind_both}
+use Rattle.tree_certificates.proofs.Cited.{accepted_both, premises_found, fields_more, mapped}
+use Rattle.tree_certificates.proofs.Cited.{reads_length}
+use Rattle.tree_certificates.proofs.Coming.{aims, enough, coming_accepted, met_by}
+use Rattle.tree_certificates.specs.Coming.{coming}
 use Rattle.box_trace.specs.declared.known.Known.{Known}
 use Rattle.box_trace.specs.declared.log.Log.{Log}
 use Rattle.box_trace.specs.Tables.{fact_of, number_or, cited_at, known_at, place_in, HasRows}

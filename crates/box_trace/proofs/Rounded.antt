@@ -4,7 +4,7 @@ use Rattle.std.proofs.Common.{sym, ◌∙◌, ap, subst}
 use Rattle.facts.specs.declared.fact.Fact.{Fact}
 use Rattle.facts.specs.Order.{slot_of, IsStronger}
 use Rattle.derivation.specs.Derivations.{At, Beats}
-use Rattle.derivation.specs.Parts.{some_same}
+use Rattle.derivation.proofs.Parts.{some_same}
 use Rattle.box_trace.specs.Ends.{IsLowBy, IsHighBy}
 use Rattle.box_trace.proofs.EndsOrder.{ends_enough}
 

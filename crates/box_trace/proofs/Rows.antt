@@ -11,12 +11,12 @@ use Rattle.facts.specs.declared.fact.Fact.{Fact}
 use Rattle.facts.specs.declared.fact.Slot.{Slot}
 use Rattle.facts.specs.declared.fact.Slot.TheVariants as slot
 use Rattle.facts.specs.Order.{is_same}
-use Rattle.facts.specs.CommonParts.{expr_same, at_option}
+use Rattle.facts.proofs.CommonParts.{expr_same, at_option}
 use Rattle.derivation.specs.Rounds.{IsProper}
 use Rattle.rule_universe.specs.Worlds.{World}
 use Rattle.rule_universe.specs.Places.{IsPlace, block_place}
-use Rattle.rule_universe.specs.OnePlace.{slot_once}
-use Rattle.saturate.specs.Lists.{get_set_here, get_set_there}
+use Rattle.rule_universe.proofs.OnePlace.{slot_once}
+use Rattle.saturate.proofs.Lists.{get_set_here, get_set_there}
 use Rattle.box_trace.specs.declared.known.Cited.{Cited}
 use Rattle.box_trace.specs.declared.known.Known.{Known}
 use Rattle.box_trace.specs.Tables.{one_later, pair_number, behind_blocks, row_of, flat, row_in}

@@ -10,17 +10,17 @@ use Rattle.facts.specs.declared.fact.Fact.{Fact}
 use Rattle.facts.specs.declared.fact.Fact.TheVariants as fact
 use Rattle.facts.specs.declared.instance.Instance.{Instance}
 use Rattle.facts.specs.Order.{slot_of}
-use Rattle.facts.specs.Laws.{IsStronger-trans}
+use Rattle.facts.proofs.Laws.{IsStronger-trans}
 use Rattle.theorem_list.specs.Concludes.{concludes}
 use Rattle.derivation.specs.Derivations.{At, Beats}
 use Rattle.derivation.specs.Rounds.{conclusion, Improves, IsAhead, AllSeen}
-use Rattle.derivation.specs.Parts.{some_same}
-use Rattle.derivation.specs.Ahead.{ahead_fewer, ahead_step}
+use Rattle.derivation.proofs.Parts.{some_same}
+use Rattle.derivation.proofs.Ahead.{ahead_fewer, ahead_step}
 use Rattle.rule_universe.specs.Worlds.{World}
 use Rattle.rule_universe.specs.Places.{IsPlace}
-use Rattle.rule_universe.specs.OnePlace.{slot_once}
+use Rattle.rule_universe.proofs.OnePlace.{slot_once}
 use Rattle.saturate.specs.Universes.{setting_of}
-use Rattle.saturate.specs.Lists.{get_set_here, get_set_there}
+use Rattle.saturate.proofs.Lists.{get_set_here, get_set_there}
 use Rattle.box_trace.specs.declared.ends.Found.{Found}
 use Rattle.box_trace.specs.declared.ends.Ends.{Ends}
 use Rattle.box_trace.specs.Ends.{IsLowBy, IsHighBy}

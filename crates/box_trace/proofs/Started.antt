@@ -14,7 +14,7 @@ use Rattle.facts.specs.Order.{slot_of}
 use Rattle.derivation.specs.Derivations.{At}
 use Rattle.derivation.specs.Known.{Piece}
 use Rattle.derivation.specs.Rounds.{IsBlank}
-use Rattle.derivation.specs.Parts.{none_some}
+use Rattle.derivation.proofs.Parts.{none_some}
 use Rattle.derivation.specs.Exists.{joined}
 use Rattle.rule_universe.specs.Worlds.{World}
 use Rattle.rule_universe.specs.Places.{place_count}
@@ -22,13 +22,14 @@ use Rattle.saturate.specs.Universes.{setting_of}
 use Rattle.cert_bytes.specs.Certificates.{IsShort}
 use Rattle.cert_checker.specs.declared.given.Given.{Given}
 use Rattle.cert_checker.specs.declared.given.Given.TheVariants as given
-use Rattle.cert_checker.specs.Given.{given_number, given_short}
+use Rattle.cert_checker.specs.Given.{given_number}
+use Rattle.cert_checker.proofs.GivenLaws.{given_short}
 use Rattle.cert_checker.specs.Open.{Numbered}
 use Rattle.cert_checker.specs.Steps.{met_with, IsEnough, whole_line, variable_fact}
 use Rattle.tree_certificates.specs.Sections.{behind, AreAccepted, ArePlaces}
 use Rattle.tree_certificates.specs.Writing.{IsSlotKnown, IsWritable, givens_of}
 use Rattle.tree_certificates.specs.Traces.{IsCutTo, HaveFields}
-use Rattle.tree_certificates.specs.Coming.{enough, met_by_interval, met_by, line_joined}
+use Rattle.tree_certificates.proofs.Coming.{enough, met_by_interval, met_by, line_joined}
 use Rattle.box_trace.specs.declared.known.Known.{Known}
 use Rattle.box_trace.specs.declared.log.Log.{Log}
 use Rattle.box_trace.specs.Tables.{known_at, place_in, HasRows}

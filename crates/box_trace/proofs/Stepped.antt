@@ -5,14 +5,16 @@ use Rattle.std.proofs.Common.{sym, ◌∙◌, ap, subst, inl, inr, arith, length
 use Rattle.pair_closure.specs.Reached.{IsEachOnce}
 use Rattle.facts.specs.declared.fact.Fact.{Fact}
 use Rattle.facts.specs.Order.{slot_of, IsStronger, meet_of}
-use Rattle.facts.specs.Laws.{IsStronger-slot}
-use Rattle.facts.specs.CommonParts.{void_is}
-use Rattle.derivation.specs.Steps.{improved_stronger}
-use Rattle.derivation.specs.Exists.{joined, or_else, with_fact, with_fact-improves}
+use Rattle.facts.proofs.Laws.{IsStronger-slot}
+use Rattle.facts.proofs.CommonParts.{void_is}
+use Rattle.derivation.proofs.Steps.{improved_stronger}
+use Rattle.derivation.specs.Exists.{joined, or_else, with_fact}
+use Rattle.derivation.proofs.Exists.{with_fact-improves}
 use Rattle.rule_universe.specs.Worlds.{World, HasSlot}
 use Rattle.rule_universe.specs.Places.{IsPlace}
-use Rattle.rule_universe.specs.OnePlace.{place_slot, place_within}
-use Rattle.tree_certificates.specs.Coming.{with_by-some, with_by}
+use Rattle.rule_universe.proofs.OnePlace.{place_slot, place_within}
+use Rattle.tree_certificates.proofs.Coming.{with_by-some}
+use Rattle.tree_certificates.specs.Coming.{with_by}
 use Rattle.box_trace.specs.declared.known.Cited.{Cited}
 use Rattle.box_trace.specs.declared.log.Log.{Log}
 use Rattle.box_trace.specs.Tables.{row_in, fact_of, number_or, cited_at, known_at, place_in}

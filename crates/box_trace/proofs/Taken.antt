@@ -12,7 +12,7 @@ use Rattle.theorem_list.specs.Concludes.{concludes}
 use Rattle.derivation.specs.Derivations.{Beats}
 use Rattle.derivation.specs.Lists.{IsOnTargetList}
 use Rattle.derivation.specs.Rounds.{conclusion}
-use Rattle.derivation.specs.Parts.{some_same, conclusion_reads}
+use Rattle.derivation.proofs.Parts.{some_same, conclusion_reads}
 use Rattle.rule_universe.specs.declared.placed.Placed.{Placed}
 use Rattle.rule_universe.specs.Worlds.{World}
 use Rattle.rule_universe.specs.Places.{IsPlace}

@@ -1,6 +1,6 @@
 -- The steps of a box, round by round.
 use Rattle.std.specs.Prelude.{◌≡◌, ◌≢◌, ◌⊎◌, ◌<◌, ◌≤◌, ◌+◌, ◌*◌, ◌-◌, ℕ, zero, suc, List, [], ◌∷◌}
-use Rattle.std.specs.Prelude.{◌++◌, length, take, Option, Some, None, slice_get}
+use Rattle.std.specs.Prelude.{◌++◌, length, Option, Some, None, slice_get}
 use Rattle.std.specs.Borrow.{Bor}
 use Rattle.std.specs.List.{AllByRecursion}
 use Rattle.fx_model.specs.declared.Node.{Node}
@@ -105,10 +105,6 @@ variable_count (n ∷ nodes) = one_if_variable n + variable_count nodes
 abbrev pub most_given : World → Option (Bor Known) → ℕ
 most_given u None = length u.hypotheses + variable_count u.nodes
 most_given u (Some parent) = 1
-
--- the same of the root, as far as the first n nodes
-abbrev pub given_before : World → ℕ → ℕ
-given_before u n = length u.hypotheses + variable_count (take n u.nodes)
 
 -- ---- a box
 -- The steps of a box, from the number `first` on: what is given, and then the rounds. Premises are

@@ -1,6 +1,6 @@
 -- What a round gathers from its instances, before it writes.
-use Rattle.std.specs.Prelude.{◌≡◌, ◌⊎◌, ◌<◌, ◌≤◌, ◌+◌, ◌*◌, ◌-◌, ⊤, min, ℕ, Bool, true, false, List}
-use Rattle.std.specs.Prelude.{length, Option, Some, None, slice_get, slice_set}
+use Rattle.std.specs.Prelude.{◌≡◌, ◌⊎◌, ◌<◌, ◌≤◌, ◌+◌, ◌*◌, ⊤, ℕ, Bool, true, false, List, length}
+use Rattle.std.specs.Prelude.{Option, Some, None, slice_get, slice_set}
 use Rattle.facts.specs.declared.fact.Fact.{Fact}
 use Rattle.facts.specs.declared.fact.Fact.TheVariants as fact
 use Rattle.facts.specs.declared.instance.Instance.{Instance}
@@ -90,7 +90,3 @@ IsGathered u at rows None = IsScanned u at rows (length u.instances)
 -- the place is one of a slot of an interval
 abbrev pub IsWide : ℕ → ℕ → Type 0
 IsWide n p = (p < 2 * n) ⊎ (4 * n ≤ p)
-
--- so many steps at most for the first p places: two for a slot of an interval, and one for another
-abbrev pub most_for : ℕ → ℕ → ℕ
-most_for n p = p + min p (2 * n) + (p - 4 * n)

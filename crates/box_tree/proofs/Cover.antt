@@ -12,13 +12,14 @@ use Rattle.fx_model.specs.Enclosure.{Lies}
 use Rattle.dyadic.specs.declared.number.Dyadic.{Dyadic}
 use Rattle.dyadic.specs.declared.number.End.TheVariants as end
 use Rattle.dyadic.specs.Values.{value_of}
-use Rattle.dyadic.specs.Rising.{IsRising, rising_more}
+use Rattle.dyadic.specs.Rising.{IsRising}
+use Rattle.dyadic.proofs.Rising.{rising_more}
 use Rattle.interval.specs.declared.interval.Interval.{Interval}
 use Rattle.interval.specs.Intervals.{range_of}
 use Rattle.interval.specs.Meets.{interval_from-some}
 use Rattle.facts.specs.Order.{is_same}
-use Rattle.facts.specs.CommonParts.{at_option, expr_same, same_itself}
-use Rattle.facts.specs.Held.{some-and}
+use Rattle.facts.proofs.CommonParts.{at_option, expr_same, same_itself}
+use Rattle.facts.proofs.Held.{some-and}
 use Rattle.script_hints.specs.declared.hint.Split.{Split}
 use Rattle.script_hints.specs.declared.hint.Cutting.{Cutting}
 use Rattle.box_tree.specs.declared.next.Next.{Next}
@@ -37,7 +38,7 @@ use Rattle.box_tree.specs.Plans.{pieces_below, pieces_at, piece_at}
 use Rattle.box_tree.specs.Covers.{Values, Has, LiesInRange, LieIn, LieInBox, LiesInPiece}
 use Rattle.box_tree.proofs.Put.{range_ordered, put_ordered}
 use Rattle.box_tree.proofs.Within.{forced_step, piece_ordered, forced_within, half_within}
-use Rattle.box_tree.specs.InRanges.{at_bool, above_in, range_var, below_append}
+use Rattle.box_tree.proofs.InRanges.{at_bool, above_in, range_var, below_append}
 
 -- ---- one range
 -- some piece of a range has each of its values

@@ -5,7 +5,7 @@ use Rattle.std.proofs.Common.{sym, ap, ◌∙◌, subst, arith, inl, inr, length
 use Rattle.std.proofs.lemmas.Bool.{ltb-true}
 use Rattle.fx_model.specs.declared.ExprId.{ExprId}
 use Rattle.dyadic.specs.declared.number.Dyadic.{Dyadic}
-use Rattle.facts.specs.CommonParts.{at_option}
+use Rattle.facts.proofs.CommonParts.{at_option}
 use Rattle.script_hints.specs.declared.hint.Split.{Split}
 use Rattle.box_tree.specs.declared.next.Next.{Next}
 use Rattle.box_tree.specs.declared.next.Next.TheVariants as next
@@ -17,7 +17,7 @@ use Rattle.box_tree.specs.Regions.{halved_or, next_half, turned, half_of, else_n
 use Rattle.box_tree.specs.Regions.{piece_by, piece, region_below, region_at}
 use Rattle.box_tree.specs.Plans.{cut_by, cut_at}
 use Rattle.box_tree.proofs.Within.{forced_step}
-use Rattle.box_tree.specs.InRanges.{at_bool}
+use Rattle.box_tree.proofs.InRanges.{at_bool}
 
 -- how a cut goes on: a forced one leaves more cuts behind, a half one more halving
 data Goes (plan : PlanParts) (g : Region) : Next → Type 0 where

@@ -7,3 +7,5 @@ pub mod Turns
 pub mod Within
 pub mod WholeBox
 pub mod OnRanges
+pub mod Paths
+pub mod InRanges

@@ -12,7 +12,7 @@ use Rattle.interval.specs.declared.interval.Interval.{Interval}
 use Rattle.facts.specs.declared.fact.Fact.{Fact}
 use Rattle.facts.specs.declared.fact.Fact.TheVariants as fact
 use Rattle.facts.specs.Order.{is_same}
-use Rattle.facts.specs.CommonParts.{at_option, expr_same}
+use Rattle.facts.proofs.CommonParts.{at_option, expr_same}
 use Rattle.script_claims.specs.declared.claim.Claim.{Claim}
 use Rattle.script_claims.specs.Facts.{hypothesis_fact}
 use Rattle.script_hints.specs.declared.hint.Split.{Split}
@@ -28,7 +28,7 @@ use Rattle.box_tree.specs.Regions.{half_in, halved_or, next_half, turned, half_o
 use Rattle.box_tree.specs.Regions.{next_of, with_piece, narrowed, piece_by, piece, region_below}
 use Rattle.box_tree.specs.Regions.{region_at}
 use Rattle.box_tree.specs.Plans.{cut_by, cut_at, last_piece, piece_at}
-use Rattle.box_tree.specs.InRanges.{below_append}
+use Rattle.box_tree.proofs.InRanges.{below_append}
 use Rattle.box_tree.specs.Root.{finite_range, range_by, or_later, split_range, with_range}
 use Rattle.box_tree.specs.Root.{split_ranges, plan_by, IsBounded}
 

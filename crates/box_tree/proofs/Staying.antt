@@ -7,7 +7,8 @@ use Rattle.std.proofs.lemmas.List.{at_drop_more, at_drop_all}
 use Rattle.fx_model.specs.Fraction.{◌≤ℚ◌, ◌<ℚ◌, lt_le, le_refl, le_lt_trans}
 use Rattle.dyadic.specs.declared.number.Dyadic.{Dyadic}
 use Rattle.dyadic.specs.Values.{value_of, zero_number}
-use Rattle.dyadic.specs.Rising.{point_of, point_last}
+use Rattle.dyadic.specs.Rising.{point_of}
+use Rattle.dyadic.proofs.Rising.{point_last}
 use Rattle.script_hints.specs.Few.{HasFewPieces}
 use Rattle.script_hints.specs.declared.hint.Cutting.{Cutting}
 use Rattle.script_hints.specs.declared.hint.Cutting.TheVariants as cutting
@@ -15,7 +16,7 @@ use Rattle.box_tree.specs.declared.range.SplitRange.{SplitRange}
 use Rattle.box_tree.specs.Ranges.{IsOrdered, IsWithin, is_less, is_inside}
 use Rattle.box_tree.specs.Points.{part_at, parts_from, asked_points, is_above_last, with_points}
 use Rattle.box_tree.specs.Points.{cut_points, staying, piece_of}
-use Rattle.box_tree.specs.InRanges.{at_bool, lt_in}
+use Rattle.box_tree.proofs.InRanges.{at_bool, lt_in}
 use Rattle.box_tree.proofs.Near.{lt_out}
 use Rattle.box_tree.proofs.Within.{piece_ordered, points_within}
 use Rattle.box_tree.proofs.Cover.{points_rising, none_rising, one_rising}

@@ -16,8 +16,8 @@ use Rattle.facts.specs.declared.fact.Fact.{Fact}
 use Rattle.facts.specs.declared.fact.Fact.TheVariants as fact
 use Rattle.facts.specs.Holds.{Holds}
 use Rattle.facts.specs.Order.{is_same}
-use Rattle.facts.specs.CommonParts.{expr_same}
-use Rattle.facts.specs.Held.{some-and}
+use Rattle.facts.proofs.CommonParts.{expr_same}
+use Rattle.facts.proofs.Held.{some-and}
 use Rattle.script_claims.specs.declared.claim.Claim.{Claim}
 use Rattle.script_claims.specs.Facts.{hypothesis_fact}
 use Rattle.script_claims.specs.Meets.{IsTrueAt}
@@ -28,7 +28,7 @@ use Rattle.box_tree.specs.Root.{finite_range, range_by, or_later, split_range, w
 use Rattle.box_tree.specs.Root.{split_ranges, plan_by}
 use Rattle.box_tree.specs.Covers.{Has, LiesInRange, LieIn, LieInBox}
 use Rattle.box_tree.proofs.Cover.{root_out}
-use Rattle.box_tree.specs.InRanges.{at_bool, finite_out}
+use Rattle.box_tree.proofs.InRanges.{at_bool, finite_out}
 
 -- ---- one hypothesis
 module _ (nodes : List Node) (a : Assignment) where

@@ -23,7 +23,7 @@ use Rattle.box_tree.specs.Points.{half_point, piece_of}
 use Rattle.box_tree.specs.Nexts.{IsWithinNext}
 use Rattle.box_tree.specs.Regions.{PlanParts, Region, points_in, forced_or, next_forced, half_in}
 use Rattle.box_tree.specs.Regions.{halved_or, next_half, turned, half_of}
-use Rattle.box_tree.specs.InRanges.{at_bool, within_at, append_within, inside_within}
+use Rattle.box_tree.proofs.InRanges.{at_bool, within_at, append_within, inside_within}
 
 -- ---- each piece's ends are in order
 pub piece_ordered : (r : SplitRange) (points : List Dyadic) (i : ℕ) → IsOrdered r

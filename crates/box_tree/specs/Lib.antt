@@ -7,5 +7,4 @@ pub mod Regions
 pub mod Plans
 pub mod Few
 pub mod Root
-pub mod InRanges
 pub mod Covers

@@ -17,7 +17,7 @@ use Rattle.box_workers.specs.declared.record.Record.{Record}
 use Rattle.box_workers.specs.Seen.{BoxTask}
 use Rattle.box_workers.specs.Answers.{first_open_in}
 use Rattle.box_workers.specs.Gathered.{leaf_only, IsAccount, records_rest, left_rest, Went, nothing}
-use Rattle.box_workers.specs.Gathered.{Few, IsPart}
+use Rattle.box_workers.proofs.Gathered.{Few, IsPart}
 use Rattle.box_workers.specs.Ends.{HeldFits, RecordFits}
 use Rattle.box_workers.specs.declared.fate.Held.{Held}
 use Rattle.box_workers.specs.Records.{IsLeafWithState}

@@ -5,11 +5,12 @@ use Rattle.std.proofs.Common.{arith, eq-eqb}
 use Rattle.std.proofs.lemmas.List.Elements.{All-head, All-tail, All-cons, All-nil, All-append}
 use Rattle.std.proofs.lemmas.Bool.Decides.{eqb_tells}
 use Rattle.box_tree.specs.Pieces.{piece_count}
-use Rattle.bisect.specs.Trees.{Tree, child_count, all_pieces}
+use Rattle.bisect.specs.Trees.{Tree, child_count}
+use Rattle.bisect.proofs.Trees.{all_pieces}
 use Rattle.bisect.specs.Walks.{IsListed}
 use Rattle.bisect.specs.declared.outcome.Leaf.{Leaf}
 use Rattle.accounts.specs.Weights.{total, kids}
-use Rattle.accounts.specs.Sums.{total_append, total_snoc, kids_le}
+use Rattle.accounts.proofs.SumsLaws.{total_append, total_snoc, kids_le}
 use Rattle.box_workers.specs.declared.fate.Held.{Held}
 use Rattle.box_workers.proofs.Whole.{below_law}
 use Rattle.box_workers.specs.Gathered.{below, leaf_only, Went, nothing, left_rest, children_rest}

@@ -6,7 +6,7 @@ use Rattle.std.proofs.lemmas.Bool.Decides.{eqb_tells}
 use Rattle.std.proofs.lemmas.List.Elements.{All-weaker}
 use Rattle.fx_edge.specs.declared.ledger.Ledger.{Ledger}
 use Rattle.accounts.specs.Weights.{total}
-use Rattle.accounts.specs.Sums.{total_append, total_map}
+use Rattle.accounts.proofs.SumsLaws.{total_append, total_map}
 use Rattle.box_deques.specs.Close.{AreHands, IsLedgerOf}
 use Rattle.box_deques.specs.Rule.{Gone, taken_by}
 use Rattle.box_deques.specs.Seen.{Lane, Seat, Hand, Name, no_seat, seat_at, hand_with, without_pass}

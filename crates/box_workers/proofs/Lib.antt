@@ -12,3 +12,5 @@ pub mod Turns
 pub mod Walking
 pub mod Whole
 pub mod Paths
+pub mod Gathered
+pub mod Starts

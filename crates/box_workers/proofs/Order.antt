@@ -17,7 +17,7 @@ use Rattle.bisect.specs.Boxes.{IsBefore, leaf_at, with_leaf, leaves_of, open_goa
 use Rattle.bisect.specs.Boxes.{first_open}
 use Rattle.bisect.specs.declared.outcome.Leaf.{Leaf}
 use Rattle.accounts.specs.Weights.{total, one}
-use Rattle.accounts.specs.Sums.{total_map, some_positive, same_or_not, one_same}
+use Rattle.accounts.proofs.SumsLaws.{total_map, some_positive, same_or_not, one_same}
 use Rattle.box_workers.specs.Answers.{first_open_in}
 use Rattle.box_workers.specs.Gathered.{leaf_only}
 use Rattle.box_workers.specs.Records.{IsLeafWithState}

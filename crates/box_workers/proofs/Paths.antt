@@ -3,7 +3,7 @@ use Rattle.std.proofs.Common.{◌≡◌, inl, inr, ℕ, ◌<◌, List, [], ◌�
 use Rattle.std.proofs.Common.{append_assoc}
 use Rattle.box_tree.specs.Paths.{IsPathOf}
 use Rattle.accounts.specs.Paths.{child}
-use Rattle.accounts.specs.Sums.{child_same, ends}
+use Rattle.accounts.proofs.SumsLaws.{child_same, ends}
 
 pub child_path : (pieces : List ℕ → ℕ) (q : List ℕ) (i : ℕ) → IsPathOf pieces q → i < pieces q
     → IsPathOf pieces (child q i)

@@ -9,7 +9,7 @@ use Rattle.std.proofs.lemmas.Option.{same_Some}
 use Rattle.boxcar.specs.Table.{Shelves}
 use Rattle.bisect.specs.Trees.{Tree}
 use Rattle.accounts.specs.Weights.{total}
-use Rattle.accounts.specs.Sums.{total_append, total_map}
+use Rattle.accounts.proofs.SumsLaws.{total_append, total_map}
 use Rattle.box_deques.specs.Rule.{Belongs}
 use Rattle.box_deques.specs.Seen.{Lane, Thief, Seat, Hand, Name, seat_at, HasPass, IsNew, IsSeated}
 use Rattle.box_deques.specs.Seen.{no_lane, with_hands, with_push}
@@ -21,7 +21,8 @@ use Rattle.box_workers.specs.Fates.{IsHeld}
 use Rattle.box_workers.specs.declared.post.Post.{Post}
 use Rattle.box_workers.specs.declared.record.Record.{Record}
 use Rattle.box_workers.specs.Seen.{BoxTask, board_of}
-use Rattle.box_workers.specs.Starts.{IsThief, IsStart, AreStarts, lane_name}
+use Rattle.box_workers.specs.Starts.{IsThief, lane_name}
+use Rattle.box_workers.proofs.Starts.{IsStart, AreStarts}
 use Rattle.box_workers.specs.Sums.{sum_to}
 use Rattle.box_workers.specs.Taking.{weight_of, took}
 use Rattle.box_workers.specs.Joins.{no_hand, taken_of_lane, lanes_pushed, lanes_took, CanClose}

@@ -5,7 +5,7 @@ use Rattle.std.proofs.Common.{arith}
 use Rattle.std.proofs.lemmas.Bool.Decides.{eqb_tells}
 use Rattle.std.proofs.lemmas.List.Elements.{All-head, All-tail}
 use Rattle.accounts.specs.Weights.{total}
-use Rattle.accounts.specs.Sums.{total_append}
+use Rattle.accounts.proofs.SumsLaws.{total_append}
 use Rattle.box_deques.specs.Close.{AreHands}
 use Rattle.box_deques.specs.Rule.{Gone, taken_by, paths_of}
 use Rattle.box_deques.specs.Seen.{Seat, Hand, seat_at, OwnIsEmpty}

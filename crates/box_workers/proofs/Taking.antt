@@ -5,12 +5,13 @@ use Rattle.std.proofs.Common.{subst, append_assoc, arith, get_or-set_same, get_o
 use Rattle.std.proofs.lemmas.Bool.Decides.{eqb_tells}
 use Rattle.std.proofs.lemmas.List.Elements.{All-weaker, All-more, All-get_or}
 use Rattle.std.proofs.lemmas.Bool.{cases_lt}
-use Rattle.accounts.specs.Sums.{total_set, total_snoc}
+use Rattle.accounts.proofs.SumsLaws.{total_set, total_snoc}
 use Rattle.box_deques.specs.Moments.{SamePasses, Steals, Pops}
 use Rattle.box_deques.specs.Seen.{Lane, Thief, Seat, Hand, no_seat, seat_at, hand_with, HasPass}
 use Rattle.box_deques.specs.Seen.{with_take, with_empty, with_pop}
 use Rattle.box_deques.specs.Views.{Take}
-use Rattle.box_deques.specs.Stealing.{CanSteal, can_steal_stays}
+use Rattle.box_deques.specs.Stealing.{CanSteal}
+use Rattle.box_deques.proofs.Stealing.{can_steal_stays}
 use Rattle.box_workers.specs.Taking.{weight_of, hand_took, took, GoesOn, Rose, NotBelow, HandWentOn}
 use Rattle.box_workers.specs.Taking.{RoseAt}
 

@@ -6,7 +6,7 @@ use Rattle.boxcar.specs.Table.{Shelves}
 use Rattle.bisect.specs.Trees.{Tree, child_count}
 use Rattle.bisect.specs.Boxes.{leaf_at}
 use Rattle.bisect.specs.declared.outcome.Leaf.{Leaf}
-use Rattle.accounts.specs.Sums.{total_snoc}
+use Rattle.accounts.proofs.SumsLaws.{total_snoc}
 use Rattle.box_deques.specs.Seen.{Lane, Hand}
 use Rattle.box_workers.specs.declared.fate.Held.{Held}
 use Rattle.box_workers.specs.declared.fate.Fate.{Fate}

@@ -7,7 +7,7 @@ use Rattle.bisect.specs.Boxes.{leaf_at, with_leaf, leaves_of}
 use Rattle.bisect.specs.Walks.{Seen, after, boxes_from}
 use Rattle.bisect.specs.declared.outcome.Leaf.{Leaf}
 use Rattle.accounts.specs.Weights.{total}
-use Rattle.accounts.specs.Sums.{total_append}
+use Rattle.accounts.proofs.SumsLaws.{total_append}
 use Rattle.box_workers.specs.Gathered.{below, leaf_only, Went, nothing}
 use Rattle.box_workers.specs.Records.{IsLeafWithState}
 use Rattle.box_workers.proofs.Order.{leaves_total}

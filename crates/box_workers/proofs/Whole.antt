@@ -7,12 +7,13 @@ use Rattle.bisect.specs.Walks.{IsListed, pieces_from, boxes_from}
 use Rattle.bisect.specs.declared.outcome.Leaf.{Leaf}
 use Rattle.accounts.specs.Paths.{child}
 use Rattle.accounts.specs.Weights.{total, kids}
-use Rattle.accounts.specs.Sums.{total_append, total_snoc, kids_le}
+use Rattle.accounts.proofs.SumsLaws.{total_append, total_snoc, kids_le}
 use Rattle.box_workers.specs.declared.fate.Held.{Held}
 use Rattle.box_workers.specs.declared.record.Record.{Record}
 use Rattle.box_workers.specs.Seen.{BoxTask}
 use Rattle.box_workers.specs.Fates.{children_of}
-use Rattle.box_workers.specs.Gathered.{below, IsAccount, held_rest_of, record_rest, Few, IsPart}
+use Rattle.box_workers.specs.Gathered.{below, IsAccount, held_rest_of, record_rest}
+use Rattle.box_workers.proofs.Gathered.{Few, IsPart}
 use Rattle.box_workers.specs.Records.{children_of_all, children_of_held, held_weight, record_weight}
 use Rattle.box_workers.specs.Records.{IsLeafWithState}
 

@@ -17,7 +17,7 @@ use Rattle.bisect.specs.declared.outcome.Leaf.{Leaf}
 use Rattle.bisect.specs.Trees.{Tree, IsLeaf}
 use Rattle.bisect.specs.Boxes.{AreBoxes, leaves_of, leaf_at}
 use Rattle.bisect.specs.Gathered.{with_known, with_state, line_with}
-use Rattle.bisect.specs.Keeping.{leaves_keep}
+use Rattle.bisect.proofs.Keeping.{leaves_keep}
 use Rattle.case_trees.specs.Listed.{Listed, AreListed, all_leaves}
 
 -- a tree's list of boxes has its leaves

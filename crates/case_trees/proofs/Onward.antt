@@ -4,7 +4,7 @@ use Rattle.std.specs.Prelude.{None, refl}
 use Rattle.std.specs.List.{AllByRecursion}
 use Rattle.std.proofs.Common.{sym, ◌∙◌, ap, arith, append_assoc}
 use Rattle.std.proofs.lemmas.List.{append-nil}
-use Rattle.box_tree.specs.Paths.{no_more}
+use Rattle.box_tree.proofs.Paths.{no_more}
 use Rattle.bisect.specs.declared.outcome.Outcome.{Outcome}
 use Rattle.bisect.specs.declared.outcome.Outcome.TheVariants as outcome
 use Rattle.bisect.specs.Trees.{Tree}
@@ -13,8 +13,9 @@ use Rattle.bisect.specs.Answers.{IsAnswer, IsAnswerOf}
 use Rattle.case_trees.specs.declared.outcome.OpenLeaf.{OpenLeaf}
 use Rattle.case_trees.specs.declared.outcome.CaseOutcome.{CaseOutcome}
 use Rattle.case_trees.specs.declared.outcome.CaseOutcome.TheVariants as cases
-use Rattle.case_trees.specs.Listed.{Listed, listed, AreListed, open_at, or_later, first_open_from}
+use Rattle.case_trees.specs.Listed.{Listed, AreListed, open_at, or_later, first_open_from}
 use Rattle.case_trees.specs.Listed.{all_leaves}
+use Rattle.case_trees.proofs.Listed.{listed}
 use Rattle.case_trees.specs.Answers.{IsAnswerBy, IsAnswerOfAll}
 use Rattle.case_trees.specs.Gathered.{Seen, nothing_seen, boxes_left, or_open, leaves_with}
 use Rattle.case_trees.specs.Gathered.{with_outcome, IsWithin, end_at, end_of, EndsBy, EndsAs}

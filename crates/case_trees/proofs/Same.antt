@@ -12,8 +12,9 @@ use Rattle.bisect.specs.Answers.{IsAnswer, IsAnswerOf}
 use Rattle.case_trees.specs.declared.outcome.OpenLeaf.{OpenLeaf}
 use Rattle.case_trees.specs.declared.outcome.CaseOutcome.{CaseOutcome}
 use Rattle.case_trees.specs.declared.outcome.CaseOutcome.TheVariants as cases
-use Rattle.case_trees.specs.Listed.{Listed, listed, AreListed, box_count, open_at, or_later}
+use Rattle.case_trees.specs.Listed.{Listed, AreListed, box_count, open_at, or_later}
 use Rattle.case_trees.specs.Listed.{first_open_from, all_leaves}
+use Rattle.case_trees.proofs.Listed.{listed}
 use Rattle.case_trees.specs.Answers.{IsAnswerBy, IsAnswerOfAll, of_one}
 
 -- a tree has one answer

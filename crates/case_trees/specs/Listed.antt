@@ -10,10 +10,6 @@ pub record Listed : Type 0 where
   pub tree : Tree
   pub boxes : List (List ℕ)
 
--- a tree with the paths of its boxes
-abbrev pub listed : Tree → List (List ℕ) → Listed
-listed t boxes = record { tree = t; boxes = boxes }
-
 -- Each tree with the paths of its boxes in order, tree by tree.
 abbrev pub AreListed : List Tree → List Listed → Type 0
 AreListed [] [] = ⊤

@@ -23,7 +23,8 @@ use Rattle.cert_bytes.specs.Reading.{ended_with, digits_at, limited_at, based_at
 use Rattle.cert_bytes.specs.Reading.{short_at, long_at, reference_at, wide_at, unzigzag}
 use Rattle.cert_bytes.specs.Reading.{signed_short_at, signed_long_at, expr_at, both_at, pair_at}
 use Rattle.cert_bytes.specs.Reading.{◌>>=◌}
-use Rattle.cert_bytes.specs.ReadBack.{place, ReadsTo, ReadsBack}
+use Rattle.cert_bytes.specs.ReadBack.{place, ReadsTo}
+use Rattle.cert_bytes.proofs.ReadBack.{ReadsBack}
 use Rattle.cert_bytes.specs.Spelling.{digits, based, zigzag, distance, tiny, short, reference, wide}
 use Rattle.cert_bytes.specs.Spelling.{signed_short, signed_long}
 use Rattle.cert_bytes.proofs.Styled.{Bytes, one, ◌⧺◌}

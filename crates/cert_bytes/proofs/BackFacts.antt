@@ -9,24 +9,27 @@ use Rattle.dyadic.specs.declared.number.Dyadic.{Dyadic}
 use Rattle.dyadic.specs.declared.number.End.{End}
 use Rattle.dyadic.specs.declared.number.End.TheVariants.{Low, At, High}
 use Rattle.interval.specs.declared.interval.Interval.{Interval}
-use Rattle.interval.specs.Meets.{interval_from, interval_from_self}
+use Rattle.interval.specs.Meets.{interval_from}
+use Rattle.interval.proofs.Meets.{interval_from_self}
 use Rattle.facts.specs.declared.relative.RelativeError.{RelativeError}
 use Rattle.facts.specs.declared.size.Size.{Size}
 use Rattle.facts.specs.declared.place.FixPlace.{FixPlace}
 use Rattle.facts.specs.declared.fact.Fact.{Fact}
 use Rattle.facts.specs.declared.fact.Fact.TheVariants as fact
-use Rattle.facts.specs.Parts.{size_from, size_from_self, error_from, error_from_self}
+use Rattle.facts.specs.Parts.{size_from, error_from}
+use Rattle.facts.proofs.Parts.{size_from_self, error_from_self}
 use Rattle.facts.specs.Places.{place_from, place_from_self}
 use Rattle.cert_bytes.specs.Certificates.{IsOnShort}
 use Rattle.cert_bytes.specs.declared.fault.CertKind.TheVariants.{BadTag}
-use Rattle.cert_bytes.specs.Numbers.{number_from, number_from_self}
+use Rattle.cert_bytes.specs.Numbers.{number_from}
+use Rattle.cert_bytes.proofs.Numbers.{number_from_self}
 use Rattle.cert_bytes.specs.Reading.{Cursor, Read, fault, numbered, byte_at, signed_short_at}
 use Rattle.cert_bytes.specs.Reading.{signed_long_at, expr_at, both_at, pair_at, point_at, end_at}
 use Rattle.cert_bytes.specs.Reading.{interval_at, size_at, relative_at, error_at, place_at, bnd_at}
 use Rattle.cert_bytes.specs.Reading.{abs_at, rel_at, fix_at, nzr_at, fact_at, ◌>>=◌}
 use Rattle.cert_bytes.specs.Spelling.{short, signed_short, signed_long, point, end, interval, error}
 use Rattle.cert_bytes.specs.Spelling.{fact_bytes}
-use Rattle.cert_bytes.specs.ReadBack.{ReadsBack}
+use Rattle.cert_bytes.proofs.ReadBack.{ReadsBack}
 use Rattle.cert_bytes.proofs.Back.{then_back, last_back, byte_back, signed_short_back}
 use Rattle.cert_bytes.proofs.Back.{signed_long_back, small_exponent, expr_back, both_back}
 use Rattle.cert_bytes.proofs.Back.{pair_back}

@@ -14,7 +14,7 @@ use Rattle.fx_model.specs.declared.Node.{Node}
 use Rattle.fx_model.specs.declared.Node.TheVariants as node
 use Rattle.literal.specs.Spelling.{IsBetween}
 use Rattle.literal.specs.Normal.{IsNormal}
-use Rattle.literal.specs.Limits.{bounded}
+use Rattle.literal.proofs.Limits.{bounded}
 use Rattle.expr_dag.specs.Nodes.{IsInLimits}
 use Rattle.cert_bytes.specs.Certificates.{HasShortParts}
 use Rattle.cert_bytes.specs.declared.fault.CertKind.TheVariants.{BadNumber}
@@ -25,7 +25,7 @@ use Rattle.cert_bytes.specs.Reading.{direction_at, lsb_at, exponents_at, literal
 use Rattle.cert_bytes.specs.Reading.{round_at, one_at, two_at, var_at, lit_at, late_node_at}
 use Rattle.cert_bytes.specs.Reading.{node_by, node_at, ◌>>=◌}
 use Rattle.cert_bytes.specs.Spelling.{short, signed_short, wide, direction_byte, node_bytes}
-use Rattle.cert_bytes.specs.ReadBack.{ReadsBack}
+use Rattle.cert_bytes.proofs.ReadBack.{ReadsBack}
 use Rattle.cert_bytes.proofs.NormalOut.{normal_out}
 use Rattle.cert_bytes.proofs.Back.{both_back, then_back, last_back, byte_back, short_back}
 use Rattle.cert_bytes.proofs.Back.{wide_back, signed_short_back, small_exponent, expr_back}

@@ -11,7 +11,7 @@ use Rattle.cert_bytes.specs.declared.item.Item.TheVariants as item
 use Rattle.cert_bytes.specs.Certificates.{IsCounted, IsShort, IsLong, HasRoomFor}
 use Rattle.cert_bytes.specs.Reading.{fault, byte_at, tiny_at, case_count_at, cases_at, section_by}
 use Rattle.cert_bytes.specs.Reading.{root_by, root_item_at}
-use Rattle.cert_bytes.specs.ReadBack.{ReadsBack}
+use Rattle.cert_bytes.proofs.ReadBack.{ReadsBack}
 use Rattle.cert_bytes.specs.Spelling.{tiny, short, reference, counted, points, fact_bytes}
 use Rattle.cert_bytes.specs.Spelling.{cited_bytes, spelling}
 use Rattle.cert_bytes.proofs.Back.{then_back, last_back, byte_back, tiny_back}

@@ -16,7 +16,8 @@ use Rattle.cert_bytes.specs.Reading.{claim_at, cited_at, step_at, step_item_at, 
 use Rattle.cert_bytes.specs.Reading.{section_by, section_item_at, ◌>>=◌}
 use Rattle.cert_bytes.specs.Spelling.{short, reference, references, counted, optional, fact_bytes}
 use Rattle.cert_bytes.specs.Spelling.{cited_bytes, spelling}
-use Rattle.cert_bytes.specs.ReadBack.{place, ReadsBack}
+use Rattle.cert_bytes.specs.ReadBack.{place}
+use Rattle.cert_bytes.proofs.ReadBack.{ReadsBack}
 use Rattle.cert_bytes.proofs.Back.{then_back, last_back, byte_back, short_back, reference_back}
 use Rattle.cert_bytes.proofs.BackFacts.{facts_read_back}
 use Rattle.cert_bytes.proofs.Styled.{no_bytes, one, ◌⧺◌}

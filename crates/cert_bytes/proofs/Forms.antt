@@ -3,9 +3,11 @@ use Rattle.std.proofs.Common.{◌≡◌, ℤ, Some, None, sym, ap, ap₂, ◌∙
 use Rattle.fx_model.specs.Powers.{scaled}
 use Rattle.fx_model.specs.Grid.{IsOnGrid}
 use Rattle.dyadic.specs.declared.number.Dyadic.{Dyadic}
-use Rattle.dyadic.specs.Values.{value_of, same_value}
-use Rattle.dyadic.specs.Canonical.{canonical_on_grid}
-use Rattle.cert_bytes.specs.Numbers.{number_from, number_from-none, number_from_self}
+use Rattle.dyadic.specs.Values.{value_of}
+use Rattle.dyadic.proofs.Values.{same_value}
+use Rattle.dyadic.proofs.Canonical.{canonical_on_grid}
+use Rattle.cert_bytes.specs.Numbers.{number_from, number_from-none}
+use Rattle.cert_bytes.proofs.Numbers.{number_from_self}
 
 pub kept_some : (m e : ℤ) (d : Dyadic) → d.mantissa ≡ m → d.exponent ≡ e → Some d ≡ number_from m e
 kept_some m e d p q = sym (number_from_self d) ∙ ap₂ number_from p q

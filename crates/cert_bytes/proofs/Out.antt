@@ -12,7 +12,7 @@ use Rattle.std.proofs.lemmas.Nat.{div-mul-add}
 use Rattle.std.proofs.lemmas.Int.{of_z-to_z}
 use Rattle.std.proofs.lemmas.Bool.{eqb-true}
 use Rattle.fx_model.specs.declared.ExprId.{ExprId}
-use Rattle.literal.specs.Tens.{pow_positive}
+use Rattle.literal.proofs.Tens.{pow_positive}
 use Rattle.cert_bytes.specs.declared.fault.CertFault.{CertFault}
 use Rattle.cert_bytes.specs.declared.fault.CertKind.{CertKind}
 use Rattle.cert_bytes.specs.declared.fault.CertKind.TheVariants.{TooLong}

@@ -9,7 +9,8 @@ use Rattle.fx_model.specs.Fraction.{◌<ℚ◌, lt_le, le_lt_trans}
 use Rattle.fx_model.specs.declared.ExprId.{ExprId}
 use Rattle.dyadic.specs.declared.number.Dyadic.{Dyadic}
 use Rattle.dyadic.specs.Values.{value_of}
-use Rattle.dyadic.specs.Rising.{point_of, IsRising, IsAboveLast, rising_more}
+use Rattle.dyadic.specs.Rising.{point_of, IsRising, IsAboveLast}
+use Rattle.dyadic.proofs.Rising.{rising_more}
 use Rattle.cert_bytes.specs.declared.fault.CertKind.TheVariants.{BadNumber}
 use Rattle.cert_bytes.specs.declared.item.Item.{Item}
 use Rattle.cert_bytes.specs.declared.item.Item.TheVariants as item

@@ -16,8 +16,6 @@ use Rattle.dyadic.specs.declared.number.Dyadic.{Dyadic}
 use Rattle.dyadic.specs.Canonical.{IsCanonical, IsCanonical-prop, IsReduced}
 use Rattle.interval.specs.Decided.{made, made-some, made-none, made_out}
 
--- ---- tests
-
 pub same_int : (a b : ℤ) → int_eq a b ≡ true → a ≡ b
 same_int a b e = (Decides-int_eq a b).0 e
 
@@ -34,8 +32,6 @@ at_least_of a b l = let q : int_lt a b ≡ false = grind (arith, ints) in rw q r
 abbrev pub over : ℕ → ℤ → ℕ
 over n (pos e) = e - n
 over n (negsuc e) = 0
-
--- ---- numbers of the grid
 
 abbrev is_reduced : ℤ → ℤ → Bool
 is_reduced m e = (int_eq m (pos 0) && int_eq e (pos 0)) || (unsigned_abs m % 2 == 1)
@@ -128,11 +124,6 @@ number_from_out m e d q =
     let r = made_out (λ p. IsCanonical p.0 p.1)
     (λ p. IsCanonical-prop p.0 p.1) is_canonical canonical_in canonical_out number (m, e) d q in
     (sym (ap (λ (x : Dyadic). x.mantissa) r.1), sym (ap (λ (x : Dyadic). x.exponent) r.1))
-
-pub number_from_self : (d : Dyadic) → number_from d.mantissa d.exponent ≡ Some d
-number_from_self d = number_from-some d.mantissa d.exponent d.canonical
-
--- ---- literals
 
 -- The number and its exponent are those of a normal form: the exponent's excess over `high`, as
 -- tens or twos, has room in so many digits.

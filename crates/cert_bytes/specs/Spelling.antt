@@ -1,9 +1,7 @@
 -- What each item spells, in either version. In version 1 numbers have their high byte first, and
 -- signed ones are two's complement.
 use Rattle.std.specs.Prelude.{◌+◌, ◌-◌, ◌*◌, ◌/◌, ◌%◌, ◌^◌, if◌then◌else◌, nat_lt, zero, suc, ℕ, ℤ}
-use Rattle.std.specs.Prelude.{pos, negsuc, List, [], ◌∷◌, ◌++◌, length, Option, Some, None, ◌≡◌}
-use Rattle.std.proofs.Common.{refl, sym, ap, ◌∙◌}
-use Rattle.std.proofs.lemmas.List.{append_assoc}
+use Rattle.std.specs.Prelude.{pos, negsuc, List, [], ◌∷◌, ◌++◌, length, Option, Some, None}
 use Rattle.std.specs.List.{flat_map}
 use Rattle.std.specs.Int.{w16, w64, w128, to_be_bytes, cast_unsigned}
 use Rattle.fx_model.specs.declared.Node.{Node}
@@ -26,9 +24,7 @@ use Rattle.cert_bytes.specs.declared.item.Item.TheVariants as item
 use Rattle.cert_bytes.specs.declared.style.Seen.{Seen}
 use Rattle.cert_bytes.specs.declared.style.Style.{Style}
 use Rattle.cert_bytes.specs.declared.style.Style.TheVariants.{First, Second}
-use Rattle.cert_bytes.specs.Styles.{none_seen, seen_after, seen_behind, style_after}
-
--- ---- version 2
+use Rattle.cert_bytes.specs.Styles.{none_seen, style_after}
 
 -- A number below 128^k in base 128, in as many bytes as it needs: the low digits first, and 128 is
 -- added to each but the last.
@@ -48,8 +44,6 @@ zigzag (negsuc n) = 2 * n + 1
 -- How far behind p the next step stands, modulo 2^64; and back.
 abbrev pub distance : ℕ → ℕ → ℕ
 distance steps p = (steps + (2 ^ 64 - p)) % 2 ^ 64
-
--- ---- fields
 
 -- up to 255
 unfoldable pub tiny : ℕ → Style → List ℕ
@@ -121,8 +115,6 @@ fact_bytes (fact.Fix x k) style = 4 ∷ (short x.0 style ++ signed_short k.expon
 fact_bytes (fact.Nzr x) style = 5 ∷ short x.0 style
 fact_bytes fact.Void style = 6 ∷ []
 
--- ---- nodes
-
 -- the byte of a rounding direction
 abbrev pub direction_byte : Direction → ℕ
 direction_byte Zr = 0
@@ -155,8 +147,6 @@ node_bytes (Round r x) style =
 abbrev pub mark_byte : HintMark → ℕ
 mark_byte Checked = 0
 mark_byte Assumed = 1
-
--- ---- items
 
 -- a flag, and behind a 1 the step
 abbrev pub optional : Option ℕ → Style → List ℕ
@@ -209,8 +199,6 @@ abbrev pub spelled_from : Style → List Item → List ℕ
 spelled_from style [] = []
 spelled_from style (i ∷ items) = spelling i style ++ spelled_from (style_after style i) items
 
--- ---- items in version 2
-
 -- what an item spells where this stood before it
 abbrev pub spelling_of : Seen → Item → List ℕ
 spelling_of seen i = spelling i (Second seen)
@@ -222,12 +210,3 @@ spelled_behind seen items = spelled_from (Second seen) items
 -- what a certificate's first items spell
 abbrev pub certificate_of : List Item → List ℕ
 certificate_of items = spelled_behind none_seen items
-
--- Two lists are spelled one after the other.
-pub spelled_both : (s : Seen) (items more : List Item) → spelled_behind s (items ++ more)
-    ≡ spelled_behind s items ++ spelled_behind (seen_behind s items) more
-spelled_both s [] more = refl
-spelled_both s (i ∷ items) more =
-    ap (λ bs. spelling_of s i ++ bs) (spelled_both (seen_after s i) items more)
-    ∙ sym (append_assoc (spelling_of s i) (spelled_behind (seen_after s i) items)
-    (spelled_behind (seen_behind (seen_after s i) items) more))

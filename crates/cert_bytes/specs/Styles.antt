@@ -1,5 +1,5 @@
 -- How numbers are spelled, from item to item.
-use Rattle.std.specs.Prelude.{◌≡◌, ◌+◌, ◌≤◌, ⊤, ℕ, List, [], ◌∷◌, ◌++◌, refl}
+use Rattle.std.specs.Prelude.{◌≡◌, ◌+◌, ◌≤◌, ⊤, ℕ, List, [], ◌∷◌}
 use Rattle.cert_bytes.specs.declared.style.Seen.{Seen}
 use Rattle.cert_bytes.specs.declared.style.Style.{Style}
 use Rattle.cert_bytes.specs.declared.style.Style.TheVariants.{First, Second}
@@ -49,9 +49,3 @@ IsStyleFor due old style = style ≡ old
 abbrev pub IsFew : Style → ℕ → Type 0
 IsFew First at = ⊤
 IsFew (Second seen) at = (seen.steps ≤ at) × (seen.sections ≤ at)
-
--- Behind two lists the same is seen as behind one after the other.
-pub seen_both : (s : Seen) (items more : List Item)
-    → seen_behind s (items ++ more) ≡ seen_behind (seen_behind s items) more
-seen_both s [] more = refl
-seen_both s (i ∷ items) more = seen_both (seen_after s i) items more

@@ -6,10 +6,10 @@ use Rattle.facts.specs.declared.fact.Fact.{Fact}
 use Rattle.facts.specs.declared.fact.Fact.TheVariants as fact
 use Rattle.facts.specs.declared.fact.Slot.{Slot}
 use Rattle.facts.specs.declared.fact.Slot.TheVariants as slot
-use Rattle.facts.specs.CommonParts.{expr_same, same_expr, void_is, void_cases}
+use Rattle.facts.proofs.CommonParts.{expr_same, same_expr, void_is, void_cases}
 use Rattle.facts.specs.Order.{slot_of, IsStronger, meet_of, is_same}
-use Rattle.facts.specs.Laws.{IsStronger-trans, IsStronger-slot, meet_exists}
-use Rattle.facts.specs.Meets.{void_meet}
+use Rattle.facts.proofs.Laws.{IsStronger-trans, IsStronger-slot, meet_exists}
+use Rattle.facts.proofs.Meets.{void_meet}
 use Rattle.cert_checker.specs.Steps.{IsLike, IsEnough, met_with}
 
 -- one slot, or two

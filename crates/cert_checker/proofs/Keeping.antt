@@ -16,7 +16,7 @@ use Rattle.cert_bytes.specs.Pieces.{cursor_of}
 use Rattle.cert_bytes.specs.Readers.{Progress}
 use Rattle.cert_bytes.specs.Reading.{Cursor, cursor, item_at}
 use Rattle.cert_bytes.specs.ReadOut.{AreBytes, AreRead, ReadsAreSpelled}
-use Rattle.cert_bytes.specs.Next.{due_has_next}
+use Rattle.cert_bytes.proofs.Next.{due_has_next}
 use Rattle.cert_checker.specs.declared.fault.CheckStop.{CheckStop}
 use Rattle.cert_checker.specs.declared.subject.Subject.{Subject}
 use Rattle.cert_checker.specs.Contexts.{Context, first}

@@ -23,3 +23,5 @@ pub mod Own
 pub mod Chains
 pub mod Leaves
 pub mod Keeping
+pub mod GivenLaws
+pub mod Checking

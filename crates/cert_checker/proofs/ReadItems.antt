@@ -20,7 +20,7 @@ use Rattle.cert_bytes.specs.Reading.{trailer_at, styled}
 use Rattle.cert_bytes.specs.declared.style.Style.{Style}
 use Rattle.cert_bytes.specs.declared.style.Style.TheVariants.{First, Second}
 use Rattle.cert_bytes.specs.Styles.{style_after}
-use Rattle.cert_bytes.specs.Next.{IsNext, first_of_root, of_section, a_node, a_mark}
+use Rattle.cert_bytes.proofs.Next.{IsNext, first_of_root, of_section, a_node, a_mark}
 
 -- what is read, if anything, is such an item
 abbrev Gives : (Item → Type 0) → Read Item → Type 0

@@ -16,7 +16,7 @@ use Rattle.fx_model.specs.declared.Node.TheVariants.{Var}
 use Rattle.fx_model.specs.declared.ExprId.{ExprId}
 use Rattle.dyadic.specs.declared.number.Dyadic.{Dyadic}
 use Rattle.interval.specs.Intervals.{range_of}
-use Rattle.expr_dag.specs.Shapes.{node_at-value}
+use Rattle.expr_dag.proofs.Shapes.{node_at-value}
 use Rattle.facts.specs.declared.fact.Fact.TheVariants as fact
 use Rattle.facts.specs.Conclusions.{bnd_of}
 use Rattle.facts.specs.Holds.{Holds}

@@ -12,13 +12,13 @@ use Rattle.fx_model.specs.declared.Node.TheVariants.{Var, Lit, Neg, Add, Sub, Mu
 use Rattle.fx_model.specs.declared.ExprId.{ExprId}
 use Rattle.interval.specs.Intervals.{range_of}
 use Rattle.interval.specs.Results.{whole_interval}
-use Rattle.expr_dag.specs.Shapes.{node_at-value}
+use Rattle.expr_dag.proofs.Shapes.{node_at-value}
 use Rattle.facts.specs.declared.fact.Fact.{Fact}
 use Rattle.facts.specs.declared.fact.Slot.{Slot}
 use Rattle.facts.specs.declared.fact.Fact.TheVariants as fact
 use Rattle.facts.specs.declared.hint.HintRow.{HintRow}
 use Rattle.facts.specs.Holds.{Holds}
-use Rattle.facts.specs.Held.{IsStronger-Holds, meet-Holds}
+use Rattle.facts.proofs.Held.{IsStronger-Holds, meet-Holds}
 use Rattle.facts.specs.Order.{meet_of}
 use Rattle.theorem_list.specs.Concludes.{concludes}
 use Rattle.cert_bytes.specs.declared.item.StepRow.{StepRow}

@@ -13,7 +13,7 @@ use Rattle.cert_bytes.specs.declared.order.DueItem.TheVariants.{Head, Done}
 use Rattle.cert_bytes.specs.Due.{due_behind, is_end, is_due}
 use Rattle.cert_bytes.specs.Pieces.{cursor_of}
 use Rattle.cert_bytes.specs.Readers.{Progress}
-use Rattle.cert_bytes.specs.Next.{due_has_next, done_by_end, end_is_last}
+use Rattle.cert_bytes.proofs.Next.{due_has_next, done_by_end, end_is_last}
 use Rattle.cert_checker.specs.declared.fault.CheckFault.{CheckFault}
 use Rattle.cert_checker.specs.declared.fault.CheckStop.{CheckStop}
 use Rattle.cert_checker.specs.declared.fault.CheckStop.TheVariants.{Cert, Check, Failed}

@@ -1,7 +1,6 @@
 -- What checking answers, and one turn of it.
 use Rattle.std.specs.Prelude.{◌≡◌, ◌≤◌, ◌<◌, ℕ, true, List, Option, Some, None, Result, Ok, Err}
 use Rattle.std.specs.Prelude.{IfOk, ⊤, length}
-use Rattle.std.proofs.Common.{ap}
 use Rattle.goals.specs.declared.line.Line.{Line}
 use Rattle.cert_bytes.specs.declared.fault.CertFault.{CertFault}
 use Rattle.cert_bytes.specs.declared.item.Item.{Item}
@@ -13,7 +12,7 @@ use Rattle.cert_bytes.specs.Certificates.{SpellsCertificate}
 use Rattle.cert_bytes.specs.Reading.{Cursor, item_at}
 use Rattle.cert_bytes.specs.Pieces.{Ahead, cursor_of}
 use Rattle.cert_bytes.specs.ReadOut.{AreBytes}
-use Rattle.cert_bytes.specs.Readers.{Progress, fresh}
+use Rattle.cert_bytes.specs.Readers.{Progress}
 use Rattle.cert_checker.specs.declared.fault.CheckFault.{CheckFault}
 use Rattle.cert_checker.specs.declared.fault.CheckStop.{CheckStop}
 use Rattle.cert_checker.specs.declared.fault.CheckStop.TheVariants as check_stop
@@ -26,23 +25,12 @@ use Rattle.cert_checker.specs.Standing.{Standing, HasRoom}
 use Rattle.cert_checker.specs.Accepted.{Accepts}
 use Rattle.cert_checker.specs.Outcomes.{Outcome, accepted, unread, refused, ComesOf}
 
--- ---- what is answered
-
 -- nothing was read and nothing taken
 pub record IsFresh (r : Progress) : Type 0 where
   pub at : r.ahead.at ≡ 0
   pub style : r.ahead.style ≡ First
   pub due : r.due ≡ Head
   pub fault : r.fault ≡ None
-
--- as a reader that was just made
-pub is_fresh : (name : List ℕ) (r : Progress) → r ≡ fresh name → IsFresh r
-is_fresh name r e = record {
-  at = ap (λ (q : Progress). q.ahead.at) e;
-  style = ap (λ (q : Progress). q.ahead.style) e;
-  due = ap (λ (q : Progress). q.due) e;
-  fault = ap (λ (q : Progress). q.fault) e;
-}
 
 -- The lines are those of a certificate that is accepted so, and the marks are the subject's.
 pub record ShowsLines (s : Subject) (p : Cursor) (lines : Lines) : Type 0 where
@@ -94,8 +82,6 @@ pub record AnswersBytes (s : Subject) (all : List ℕ) (from : Ahead)
   pub exact : (o : Outcome) → ComesOf s (cursor_of all from) o → IsAnswer o result
   -- lines come of bytes that spell a certificate which is accepted with them
   pub accepts : AreBytes all → IfOk result (λ lines. AreAccepted s all lines.rows)
-
--- ---- one turn
 
 -- An item more can be read and taken: there is room for it, and no fault was met.
 pub record CanTurn (c : Standing) (r : Progress) : Type 0 where

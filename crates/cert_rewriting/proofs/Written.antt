@@ -2,7 +2,8 @@
 use Rattle.std.specs.Prelude.{◌≡◌, ◌++◌, ℕ, List, Option, Result, OnErr, Ok, Err}
 use Rattle.std.proofs.Common.{sym, ap, ◌∙◌, append_assoc}
 use Rattle.std.specs.Io.KnownBytes.{Appends}
-use Rattle.whole_texts.specs.Pieces.{AppendsFront, PassesOn, appends_both}
+use Rattle.whole_texts.specs.Pieces.{AppendsFront, PassesOn}
+use Rattle.whole_texts.proofs.Pieces.{appends_both}
 
 -- a call that failed has this
 pub on_err : {T E X : Type 0} (r : Result T E) → X → OnErr r X

@@ -12,8 +12,9 @@ use Rattle.cert_bytes.specs.Certificates.{HasSpelling, Fits, AreDue, AreCertific
 use Rattle.cert_bytes.specs.Due.{due_after}
 use Rattle.cert_bytes.specs.Fronts.{IsFront}
 use Rattle.cert_bytes.specs.Styles.{none_seen, seen_in}
-use Rattle.cert_bytes.specs.Spelling.{spelled_behind, certificate_of, spelled_both}
-use Rattle.cert_upgrade.specs.Items.{AreBegun}
+use Rattle.cert_bytes.specs.Spelling.{spelled_behind, certificate_of}
+use Rattle.cert_bytes.proofs.Spelling.{spelled_both}
+use Rattle.cert_upgrade.proofs.Items.{AreBegun}
 
 pub begun_none : (d : DueItem) → d ≡ Head → AreBegun [] d
 begun_none d e more a = subst (λ (x : DueItem). AreDue (Some x) more) e a

@@ -8,7 +8,7 @@ use Rattle.cert_bytes.specs.declared.order.DueItem.TheVariants.{Done}
 use Rattle.cert_bytes.specs.Due.{due_behind}
 use Rattle.cert_bytes.specs.ReadOut.{AreRead, FailsBehind}
 use Rattle.cert_bytes.specs.Reading.{Cursor, Read, item_at, entry_at}
-use Rattle.cert_upgrade.specs.Items.{LeadsTo}
+use Rattle.cert_upgrade.proofs.Items.{LeadsTo}
 
 -- the same is read at one place
 same_place : (d e : DueItem) (c end : Cursor) → d ≡ e → c ≡ end → item_at d c ≡ item_at e end

@@ -8,3 +8,4 @@ mod Held
 mod Rewritten
 mod Stopped
 mod Upgraded
+pub mod Items

@@ -12,8 +12,8 @@ use Rattle.cert_bytes.specs.Pieces.{cursor_of}
 use Rattle.cert_bytes.specs.ReadOut.{AreRead, HasFault, ReadsAreSpelled}
 use Rattle.cert_bytes.specs.Readers.{Progress, fresh}
 use Rattle.cert_bytes.specs.Reading.{cursor, item_at}
-use Rattle.cert_upgrade.specs.Items.{AreBegun, AreItemsFor, AreItemsOf, ItemsAreOne, LeadsFromStart}
-use Rattle.cert_upgrade.specs.Items.{Respells}
+use Rattle.cert_upgrade.proofs.Items.{AreBegun, LeadsFromStart}
+use Rattle.cert_upgrade.specs.Items.{AreItemsFor, AreItemsOf, ItemsAreOne, Respells}
 use Rattle.cert_upgrade.proofs.Begun.{begun_none, begun_more, begun_all}
 use Rattle.cert_upgrade.proofs.Leads.{leads_more, leads_to_end, leads_to_fault, read_once}
 use Rattle.cert_upgrade.proofs.Leads.{read_or_fails}

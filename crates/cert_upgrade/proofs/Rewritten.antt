@@ -14,7 +14,8 @@ use Rattle.cert_bytes.specs.Readers.{Progress}
 use Rattle.cert_bytes.specs.Reading.{cursor}
 use Rattle.cert_bytes.specs.Spelling.{certificate_of, spelling_of}
 use Rattle.cert_bytes.specs.Styles.{seen_in}
-use Rattle.whole_texts.specs.Pieces.{AppendsFront, PassesOn, appends_both}
+use Rattle.whole_texts.specs.Pieces.{AppendsFront, PassesOn}
+use Rattle.whole_texts.proofs.Pieces.{appends_both}
 use Rattle.cert_upgrade.specs.Answers.{IsTaken, IsTakenInPart}
 use Rattle.cert_upgrade.specs.Items.{Respells}
 use Rattle.cert_upgrade.proofs.Begun.{some_end, front_more}

@@ -4,8 +4,10 @@ use Rattle.std.proofs.Common.{sym, ◌∙◌, ap, append-nil, arith}
 use Rattle.std.proofs.lemmas.List.{length-append}
 use Rattle.cert_bytes.specs.declared.item.Item.{Item}
 use Rattle.cert_bytes.specs.declared.style.Seen.{Seen}
-use Rattle.cert_bytes.specs.Styles.{none_seen, seen_after, seen_in, seen_both}
-use Rattle.cert_bytes.specs.Spelling.{spelling_of, spelled_both, certificate_of}
+use Rattle.cert_bytes.specs.Styles.{none_seen, seen_after, seen_in}
+use Rattle.cert_bytes.proofs.Styles.{seen_both}
+use Rattle.cert_bytes.specs.Spelling.{spelling_of, certificate_of}
+use Rattle.cert_bytes.proofs.Spelling.{spelled_both}
 use Rattle.cert_upgrade.specs.Spelled.{most, told_length}
 
 -- one item more

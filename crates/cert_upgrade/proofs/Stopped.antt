@@ -1,7 +1,8 @@
 -- What a reader's stop makes of a call.
 use Rattle.std.specs.Prelude.{◌≡◌, ◌≤◌, ℕ, Result, Ok, Err, IsErrOf, refl}
 use Rattle.std.proofs.Common.{arith}
-use Rattle.fx_edge.specs.Outside.{Rose, rose_later}
+use Rattle.fx_edge.specs.Outside.{Rose}
+use Rattle.fx_edge.proofs.OutsideLaws.{rose_later}
 use Rattle.cert_bytes.specs.declared.fault.CertFault.{CertFault}
 use Rattle.cert_bytes.specs.declared.fault.Stop.{Stop}
 use Rattle.cert_bytes.specs.declared.fault.Stop.TheVariants as cert_stop

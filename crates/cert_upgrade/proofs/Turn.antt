@@ -15,7 +15,7 @@ use Rattle.cert_bytes.specs.Readers.{Progress}
 use Rattle.cert_bytes.specs.Reading.{item_at}
 use Rattle.cert_bytes.specs.Styles.{seen_after, IsFew}
 use Rattle.cert_bytes.specs.Spelling.{spelling_of}
-use Rattle.cert_bytes.specs.Next.{due_has_next, done_by_end, end_is_last}
+use Rattle.cert_bytes.proofs.Next.{due_has_next, done_by_end, end_is_last}
 use Rattle.cert_upgrade.specs.Items.{Respells}
 
 the_end : (i : Item) → is_end i ≡ true → i ≡ item.End

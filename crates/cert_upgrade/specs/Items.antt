@@ -1,40 +1,24 @@
 -- The items of a certificate under some name, as far as they were read.
-use Rattle.std.specs.Prelude.{◌≡◌, ◌≤◌, ◌^◌, ◌++◌, ℕ, List, [], ◌∷◌, Bool, true, Option, Some, None}
-use Rattle.std.specs.Prelude.{Ok}
+use Rattle.std.specs.Prelude.{◌≡◌, ◌≤◌, ◌^◌, ◌++◌, ℕ, List, Bool, true, Option, Some, None, Ok}
 use Rattle.cert_bytes.specs.declared.item.Item.{Item}
-use Rattle.cert_bytes.specs.declared.order.DueItem.{DueItem}
 use Rattle.cert_bytes.specs.declared.order.DueItem.TheVariants.{Head, Done}
 use Rattle.cert_bytes.specs.declared.fault.CertFault.{CertFault}
 use Rattle.cert_bytes.specs.declared.style.Seen.{Seen}
 use Rattle.cert_bytes.specs.declared.style.Style.TheVariants.{First, Second}
-use Rattle.cert_bytes.specs.Certificates.{HasSpelling, Fits, AreDue, AreCertificate}
-use Rattle.cert_bytes.specs.Certificates.{SpellsCertificate}
+use Rattle.cert_bytes.specs.Certificates.{HasSpelling, Fits, AreCertificate, SpellsCertificate}
 use Rattle.cert_bytes.specs.Due.{due_after, due_behind}
 use Rattle.cert_bytes.specs.Pieces.{cursor_of}
 use Rattle.cert_bytes.specs.ReadOut.{AreBytes, AreRead, HasFault}
 use Rattle.cert_bytes.specs.Readers.{Progress}
-use Rattle.cert_bytes.specs.Reading.{Cursor, cursor, item_at}
+use Rattle.cert_bytes.specs.Reading.{cursor, item_at}
 use Rattle.cert_bytes.specs.Styles.{seen_after, IsFew}
 use Rattle.cert_bytes.specs.Spelling.{spelling_of}
-
--- ---- of bytes that are told
 
 -- These are a certificate's items: they are read to the end, in either version; and they are what
 -- the bytes spell, each of which is a byte.
 pub record AreItemsOf (all : List ℕ) (items : List Item) : Type 0 where
   pub read : AreRead Head (cursor First all 0) items
   pub spelled : AreBytes all → SpellsCertificate all items
-
--- From this place these items are read one after the other, and then that place is reached, where
--- this is due.
-abbrev pub LeadsTo : DueItem → Cursor → List Item → DueItem → Cursor → Type 0
-LeadsTo d c [] e end = (d ≡ e) × (c ≡ end)
-LeadsTo d c (i ∷ items) e end = (next : Cursor) × (item_at d c ≡ Ok (i, next)) × (¬ (d ≡ Done))
-    × LeadsTo (due_behind d i) next items e end
-
--- From the first byte on.
-abbrev pub LeadsFromStart : List ℕ → List Item → DueItem → Cursor → Type 0
-LeadsFromStart all items e end = LeadsTo Head (cursor First all 0) items e end
 
 -- Bytes have one list of items at most, and none where they have a fault.
 pub record ItemsAreOne : Type 0 where
@@ -43,19 +27,10 @@ pub record ItemsAreOne : Type 0 where
   pub sound : (all : List ℕ) (items : List Item) (f : CertFault) → AreItemsOf all items
       → HasFault all f → ⊥
 
--- ---- whatever the bytes are
-
--- These items are in order from the first on: with any that are due behind them to the end they are
--- a certificate's.
-abbrev pub AreBegun : List Item → DueItem → Type 0
-AreBegun items d = (more : List Item) → AreDue (Some d) more → AreCertificate (items ++ more)
-
 -- These items are a certificate's, and where the bytes are told they are those of the bytes.
 pub record AreItemsFor (told : Option (List ℕ)) (items : List Item) : Type 0 where
   pub are : (all : List ℕ) → told ≡ Some all → AreItemsOf all items
   pub certificate : AreCertificate items
-
--- ---- of a reader
 
 -- One more item can be read and spelled, where this was seen before it.
 pub record CanRespell (seen : Seen) (r : Progress) : Type 0 where

@@ -28,7 +28,7 @@ use Rattle.tree_certificates.specs.Trees.{Tree, IsProved, lines_of_tree, steps_i
 use Rattle.tree_certificates.specs.Roots.{roots_are_counted, cases_items}
 use Rattle.tree_certificates.specs.Walks.{numbered, MayBegin, IsOpen}
 use Rattle.tree_certificates.specs.Laws.{TracesExist}
-use Rattle.tree_certificates.specs.Moves.{lead_both, marks_due, root_due}
+use Rattle.tree_certificates.proofs.Moves.{lead_both, marks_due, root_due}
 use Rattle.box_trace.specs.Short.{bytes_a_box}
 use Rattle.cert_writer.specs.Standing.{IsAt, most_for, steps_left, lines_left, at_root}
 use Rattle.cert_writer.proofs.Sized.{head_sized}

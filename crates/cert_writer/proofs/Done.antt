@@ -37,7 +37,8 @@ use Rattle.box_trace.specs.Tables.{known_at, place_in, HasRows}
 use Rattle.box_trace.specs.Short.{BoxesAreShort}
 use Rattle.box_trace.specs.Rounds.{IsByRounds}
 use Rattle.answer_certificates.specs.Boxes.{range_of_piece, pieces_from}
-use Rattle.cert_writer.specs.Boxes.{HasShortList, KnowsVoid, CutsAt, IsEnd, written_of}
+use Rattle.cert_writer.proofs.Boxes.{HasShortList}
+use Rattle.cert_writer.specs.Boxes.{KnowsVoid, CutsAt, IsEnd, written_of}
 use Rattle.cert_writer.specs.Standing.{Target, SectionStart, IsAt, Ended, HasEnded, AreBoxSteps}
 use Rattle.cert_writer.specs.Standing.{inside, closed, trimmed}
 use Rattle.cert_writer.specs.Courses.{Course, IsCourse, HasBest, course, setting, below, IsBefore}

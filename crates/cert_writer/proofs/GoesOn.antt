@@ -23,7 +23,8 @@ use Rattle.cert_bytes.specs.declared.item.StepRow.{StepRow}
 use Rattle.cert_bytes.specs.declared.order.DueItem.TheVariants.{Sections}
 use Rattle.cert_bytes.specs.declared.style.Style.TheVariants.{Second}
 use Rattle.cert_bytes.specs.Certificates.{AreDue, AreCertificate, IsLong, IsShort}
-use Rattle.cert_bytes.specs.Spelling.{spelled_behind, certificate_of, spelled_both}
+use Rattle.cert_bytes.specs.Spelling.{spelled_behind, certificate_of}
+use Rattle.cert_bytes.proofs.Spelling.{spelled_both}
 use Rattle.cert_bytes.specs.Styles.{none_seen, seen_in}
 use Rattle.cert_bytes.specs.Sizes.{most_bytes_in, SpellingsAreShort}
 use Rattle.cert_checker.specs.declared.open.Citable.{Citable}
@@ -41,9 +42,9 @@ use Rattle.tree_certificates.specs.Trees.{lines_of_tree, lines_of_trees, lines_a
 use Rattle.tree_certificates.specs.Trees.{steps_in, steps_in_each}
 use Rattle.tree_certificates.specs.Walks.{behind_steps, IsEndOf, Frame, LiesIn, left_in}
 use Rattle.tree_certificates.specs.Walks.{lines_behind, steps_behind, IsDue, Ending}
-use Rattle.tree_certificates.specs.Moves.{WalksGoOn, WalksMove, AreSteps, IsEntered, lead_both}
-use Rattle.tree_certificates.specs.Moves.{next_behind}
-use Rattle.tree_certificates.specs.Cited.{found_long}
+use Rattle.tree_certificates.specs.Moves.{WalksGoOn, WalksMove, AreSteps, IsEntered}
+use Rattle.tree_certificates.proofs.Moves.{lead_both, next_behind}
+use Rattle.tree_certificates.proofs.Cited.{found_long}
 use Rattle.cert_writer.specs.Standing.{Aim, IsAim, IsWhole, IsBegun, SectionStart, IsAt, Ended}
 use Rattle.cert_writer.specs.Standing.{HasEnded, HasWritten, AreBoxSteps, AreShort, AreCited}
 use Rattle.cert_writer.specs.Standing.{most_for, roots_left, steps_left, lines_left, inside, closed}

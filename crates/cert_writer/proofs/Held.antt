@@ -14,7 +14,8 @@ use Rattle.cert_bytes.specs.declared.style.Seen.{Seen}
 use Rattle.cert_bytes.specs.declared.style.Style.TheVariants.{Second}
 use Rattle.cert_bytes.specs.Certificates.{SpellsAs}
 use Rattle.cert_bytes.specs.Styles.{none_seen, seen_in}
-use Rattle.cert_bytes.specs.Spelling.{spelling_of, spelled_behind, certificate_of, spelled_both}
+use Rattle.cert_bytes.specs.Spelling.{spelling_of, spelled_behind, certificate_of}
+use Rattle.cert_bytes.proofs.Spelling.{spelled_both}
 use Rattle.cert_checker.specs.Accepted.{Accepts}
 use Rattle.script_checker.specs.Subjects.{IsSubjectOf}
 use Rattle.whole_texts.specs.Pieces.{AppendsFront}

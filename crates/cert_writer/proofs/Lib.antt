@@ -12,3 +12,6 @@ mod Held
 mod Own
 mod Node
 mod Done
+pub mod Files
+pub mod Boxes
+pub mod CasesLaws

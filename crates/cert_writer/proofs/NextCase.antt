@@ -12,13 +12,14 @@ use Rattle.rule_universe.specs.Worlds.{World, IsWhole as IsWholeWorld}
 use Rattle.saturate.specs.Universes.{setting_of}
 use Rattle.box_tree.specs.Pieces.{piece_count}
 use Rattle.box_tree.specs.Plans.{cut_at, piece_at}
-use Rattle.box_tree.specs.InRanges.{root_pieces}
+use Rattle.box_tree.proofs.InRanges.{root_pieces}
 use Rattle.box_tree.specs.Regions.{PlanParts, region_below}
 use Rattle.cert_bytes.specs.declared.item.Item.{Item}
 use Rattle.cert_bytes.specs.declared.item.Item.TheVariants as item
 use Rattle.cert_bytes.specs.declared.style.Seen.{Seen}
 use Rattle.cert_bytes.specs.Styles.{none_seen, seen_in}
-use Rattle.cert_bytes.specs.Spelling.{spelled_behind, certificate_of, spelled_both}
+use Rattle.cert_bytes.specs.Spelling.{spelled_behind, certificate_of}
+use Rattle.cert_bytes.proofs.Spelling.{spelled_both}
 use Rattle.cert_checker.specs.Contexts.{open_piece}
 use Rattle.tree_certificates.specs.Roots.{Root, IsRoot}
 use Rattle.tree_certificates.specs.Trees.{Tree}

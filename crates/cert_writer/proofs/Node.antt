@@ -8,12 +8,12 @@ use Rattle.facts.specs.declared.fact.Fact.{Fact}
 use Rattle.facts.specs.declared.fact.Slot.{Slot}
 use Rattle.facts.specs.declared.fact.Fact.TheVariants as fact
 use Rattle.facts.specs.declared.fact.Slot.TheVariants as slot
-use Rattle.facts.specs.Meets.{IsStronger-antisymm}
+use Rattle.facts.proofs.Meets.{IsStronger-antisymm}
 use Rattle.goals.specs.declared.goal.Goal.{Goal}
 use Rattle.derivation.specs.Derivations.{Setting, At}
 use Rattle.derivation.specs.Known.{Piece, Known, IsTableAt}
 use Rattle.derivation.specs.Settled.{IsSettled}
-use Rattle.derivation.specs.Parts.{none_some}
+use Rattle.derivation.proofs.Parts.{none_some}
 use Rattle.box_tree.specs.declared.cut.Cut.{Cut}
 use Rattle.box_tree.specs.declared.cut.Cut.TheVariants.{Forced, Half, Bottom}
 use Rattle.box_tree.specs.Plans.{cut_at, piece_at, pieces_at}

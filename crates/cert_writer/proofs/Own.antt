@@ -9,13 +9,13 @@ use Rattle.std.proofs.lemmas.List.{length-map}
 use Rattle.facts.specs.declared.fact.Fact.{Fact}
 use Rattle.facts.specs.declared.fact.Fact.TheVariants as fact
 use Rattle.facts.specs.declared.fact.Slot.TheVariants as slot
-use Rattle.facts.specs.CommonParts.{at_option, void_is}
+use Rattle.facts.proofs.CommonParts.{at_option, void_is}
 use Rattle.goals.specs.declared.goal.Goal.{Goal}
 use Rattle.goals.specs.declared.line.Line.{Line}
 use Rattle.derivation.specs.Derivations.{Setting, Derives, At}
 use Rattle.derivation.specs.Known.{Piece, GivenAt, IsTableAt}
 use Rattle.derivation.specs.Rounds.{IsSame}
-use Rattle.derivation.specs.Parts.{none_some}
+use Rattle.derivation.proofs.Parts.{none_some}
 use Rattle.derivation.specs.Laws.{TablesAreOne}
 use Rattle.rule_universe.specs.Worlds.{World}
 use Rattle.box_tree.specs.Plans.{piece_at}
@@ -41,7 +41,8 @@ use Rattle.box_trace.specs.Boxes.{most_steps}
 use Rattle.box_trace.specs.Tables.{known_at, place_in}
 use Rattle.box_trace.specs.Short.{EndsBox, BoxesAreShort}
 use Rattle.box_trace.specs.Rounds.{IsByRounds}
-use Rattle.cert_writer.specs.Boxes.{HasShortList, KnowsVoid, IsClosed, IsEnd, refs_in}
+use Rattle.cert_writer.proofs.Boxes.{HasShortList}
+use Rattle.cert_writer.specs.Boxes.{KnowsVoid, IsClosed, IsEnd, refs_in}
 use Rattle.cert_writer.specs.Standing.{AreShort, Aim, IsAim, SectionStart, IsAt, HasEnded, AreCited}
 use Rattle.cert_writer.specs.Standing.{most_for, steps_left, closed}
 use Rattle.cert_writer.specs.Courses.{Course, IsCourse, HasBest, IsBefore, setting, best_at}

@@ -7,7 +7,8 @@ use Rattle.cert_bytes.specs.declared.item.Item.{Item}
 use Rattle.cert_bytes.specs.declared.item.Item.TheVariants as item
 use Rattle.cert_bytes.specs.declared.item.StepRow.{StepRow}
 use Rattle.cert_bytes.specs.declared.style.Seen.{Seen}
-use Rattle.cert_bytes.specs.Styles.{none_seen, seen_after, seen_behind, seen_in, seen_both}
+use Rattle.cert_bytes.specs.Styles.{none_seen, seen_after, seen_behind, seen_in}
+use Rattle.cert_bytes.proofs.Styles.{seen_both}
 use Rattle.cert_trim.specs.Behind.{section_of}
 use Rattle.tree_certificates.specs.Roots.{cases_items}
 use Rattle.cert_writer.specs.Heads.{head_items}

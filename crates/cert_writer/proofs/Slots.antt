@@ -10,7 +10,7 @@ use Rattle.facts.specs.declared.fact.Fact.{Fact}
 use Rattle.facts.specs.declared.fact.Slot.{Slot}
 use Rattle.facts.specs.declared.fact.Slot.TheVariants as slot
 use Rattle.facts.specs.Order.{is_same}
-use Rattle.facts.specs.CommonParts.{expr_same}
+use Rattle.facts.proofs.CommonParts.{expr_same}
 use Rattle.goals.specs.declared.goal.Goal.{Goal}
 use Rattle.rule_universe.specs.Worlds.{World, HasSlot}
 use Rattle.rule_universe.specs.Places.{block_place}

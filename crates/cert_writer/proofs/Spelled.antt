@@ -11,7 +11,8 @@ use Rattle.cert_bytes.specs.declared.item.Item.{Item}
 use Rattle.cert_bytes.specs.declared.item.Item.TheVariants as item
 use Rattle.cert_bytes.specs.declared.style.Seen.{Seen}
 use Rattle.cert_bytes.specs.Styles.{none_seen, seen_behind}
-use Rattle.cert_bytes.specs.Spelling.{spelling_of, spelled_behind, certificate_of, spelled_both}
+use Rattle.cert_bytes.specs.Spelling.{spelling_of, spelled_behind, certificate_of}
+use Rattle.cert_bytes.proofs.Spelling.{spelled_both}
 use Rattle.tree_certificates.specs.Roots.{cases_items}
 use Rattle.cert_writer.specs.Heads.{head_items}
 use Rattle.cert_writer.proofs.Seen.{nodes_seen, marks_seen}

@@ -18,7 +18,8 @@ use Rattle.saturate.specs.Universes.{setting_of}
 use Rattle.rewrite_hints.specs.Marks.{AreMarks}
 use Rattle.universe.specs.Universes.{IsUniverse}
 use Rattle.settler.specs.declared.cases.Case.{Case}
-use Rattle.settler.specs.Cases.{AreCases, as_many}
+use Rattle.settler.specs.Cases.{AreCases}
+use Rattle.settler.proofs.CasesLaws.{as_many}
 use Rattle.settler.specs.Answers.{Options, options, IsProved}
 use Rattle.cert_bytes.specs.declared.item.Item.{Item}
 use Rattle.cert_bytes.specs.Styles.{none_seen}
@@ -34,8 +35,8 @@ use Rattle.answer_certificates.specs.Laws.{InstancesAreFew, ScriptsHaveRoots}
 use Rattle.answer_certificates.specs.Universes.{UniversesAreSmall}
 use Rattle.cert_writer.specs.Heads.{head_items}
 use Rattle.cert_writer.specs.Standing.{Aim, IsAim, at_root, steps_needed}
-use Rattle.cert_writer.specs.Cases.{bare, subject_in, Task, task, plan_in, aim_of, StandsAt}
-use Rattle.cert_writer.specs.Cases.{StandsBefore}
+use Rattle.cert_writer.specs.Cases.{bare, Task, task, plan_in, aim_of, StandsAt, StandsBefore}
+use Rattle.cert_writer.proofs.CasesLaws.{subject_in}
 use Rattle.cert_writer.specs.Laws.{WritingGoesOn}
 use Rattle.cert_writer.proofs.NextCase.{drop_none}
 use Rattle.cert_writer.proofs.Seen.{head_seen}

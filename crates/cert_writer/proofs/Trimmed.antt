@@ -9,7 +9,8 @@ use Rattle.cert_bytes.specs.declared.item.Item.TheVariants as item
 use Rattle.cert_bytes.specs.declared.item.StepRow.{StepRow}
 use Rattle.cert_bytes.specs.declared.style.Seen.{Seen}
 use Rattle.cert_bytes.specs.Certificates.{AreCertificate}
-use Rattle.cert_bytes.specs.Styles.{none_seen, seen_after, seen_behind, seen_in, seen_both}
+use Rattle.cert_bytes.specs.Styles.{none_seen, seen_after, seen_behind, seen_in}
+use Rattle.cert_bytes.proofs.Styles.{seen_both}
 use Rattle.cert_checker.specs.declared.open.Citable.{Citable}
 use Rattle.cert_checker.specs.declared.subject.Subject.{Subject}
 use Rattle.cert_checker.specs.Contexts.{Context, first}
@@ -21,7 +22,7 @@ use Rattle.cert_trim.specs.Behind.{stays_behind, trimmed_behind, with_next, IsLe
 use Rattle.cert_trim.specs.Behind.{LeavesAreTrimmed, CertificatesStaySo, AreFewer, section_of}
 use Rattle.tree_certificates.specs.Sections.{AllBelow}
 use Rattle.tree_certificates.specs.Walks.{behind_steps}
-use Rattle.tree_certificates.specs.Moves.{lead_both}
+use Rattle.tree_certificates.proofs.Moves.{lead_both}
 use Rattle.cert_writer.specs.Laws.{OfAims}
 use Rattle.cert_writer.specs.Standing.{SectionStart, IsAt, HasEnded, closed, trimmed}
 use Rattle.cert_writer.proofs.Sized.{sized_both}

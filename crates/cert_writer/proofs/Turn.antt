@@ -24,8 +24,10 @@ use Rattle.cert_bytes.specs.declared.item.Item.{Item}
 use Rattle.cert_bytes.specs.declared.item.Item.TheVariants as item
 use Rattle.cert_bytes.specs.declared.item.StepRow.{StepRow}
 use Rattle.cert_bytes.specs.declared.style.Seen.{Seen}
-use Rattle.cert_bytes.specs.Styles.{none_seen, seen_behind, seen_in, seen_both}
-use Rattle.cert_bytes.specs.Spelling.{spelled_behind, certificate_of, spelled_both}
+use Rattle.cert_bytes.specs.Styles.{none_seen, seen_behind, seen_in}
+use Rattle.cert_bytes.proofs.Styles.{seen_both}
+use Rattle.cert_bytes.specs.Spelling.{spelled_behind, certificate_of}
+use Rattle.cert_bytes.proofs.Spelling.{spelled_both}
 use Rattle.cert_checker.specs.Contexts.{open_piece, piece_fact}
 use Rattle.cert_checker.specs.Open.{Numbered}
 use Rattle.cert_checker.specs.Steps.{step_fact, met_with, IsEnough}
@@ -34,12 +36,14 @@ use Rattle.tree_certificates.specs.Sections.{ArePlaces}
 use Rattle.tree_certificates.specs.Traces.{IsCutTo}
 use Rattle.tree_certificates.specs.Trees.{Tree, Trees, cut, last, next, cut_of, IsProved, AreProved}
 use Rattle.tree_certificates.specs.Walks.{numbered, behind_steps, Frame, IsPieceOf, LiesIn}
-use Rattle.tree_certificates.specs.Moves.{frame_of, turned, next_behind}
+use Rattle.tree_certificates.specs.Moves.{frame_of, turned}
+use Rattle.tree_certificates.proofs.Moves.{next_behind}
 use Rattle.box_trace.specs.declared.known.Known.{Known}
 use Rattle.box_trace.specs.Boxes.{IsBox, IsOfUniverse, IsItsSection}
 use Rattle.box_trace.specs.Tables.{known_at, place_in, HasRows}
 use Rattle.answer_certificates.specs.Boxes.{range_of_piece, pieces_from}
-use Rattle.whole_texts.specs.Pieces.{AppendsFront, appends_both}
+use Rattle.whole_texts.specs.Pieces.{AppendsFront}
+use Rattle.whole_texts.proofs.Pieces.{appends_both}
 use Rattle.cert_writer.specs.Standing.{Aim, IsBegun, SectionStart, IsAt, Ended, HasEnded}
 use Rattle.cert_writer.specs.Standing.{AreBoxSteps, AreShort, inside, beside, around}
 use Rattle.cert_writer.specs.Courses.{Course, IsCourse, HasBest, setting, best_at, below, Grew}

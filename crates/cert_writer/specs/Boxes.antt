@@ -13,16 +13,10 @@ use Rattle.box_tree.specs.declared.cut.Cut.{Cut}
 use Rattle.box_tree.specs.declared.cut.Cut.TheVariants.{Forced, Half, Bottom}
 use Rattle.cert_bytes.specs.declared.item.Item.{Item}
 use Rattle.cert_bytes.specs.declared.item.Item.TheVariants as item
-use Rattle.cert_bytes.specs.declared.item.StepRow.{StepRow}
-use Rattle.cert_bytes.specs.Certificates.{IsCounted}
 use Rattle.cert_trim.specs.Behind.{trimmed_behind}
 use Rattle.tree_certificates.specs.Trees.{AllSettled}
 use Rattle.box_trace.specs.declared.known.Known.{Known}
 use Rattle.box_trace.specs.Tables.{known_at, place_in}
-
--- the step's premises have room in its list
-abbrev pub HasShortList : StepRow → Type 0
-HasShortList row = IsCounted row.premises
 
 -- Of a box's own items, whose first step has number start, those that are written, where it goes
 -- into so many pieces: all of one that is cut, as its pieces may cite each step; of another

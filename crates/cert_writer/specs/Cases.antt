@@ -1,9 +1,7 @@
 -- The walk over a script's cases, which writes the root section of each: where it stands.
-use Rattle.std.specs.Prelude.{◌≡◌, ℕ, List, [], ◌∷◌, ◌++◌, drop, length, map, Option}
-use Rattle.facts.specs.declared.hint.HintMark.{HintMark}
+use Rattle.std.specs.Prelude.{◌≡◌, ℕ, List, [], ◌∷◌, ◌++◌, drop, Option}
 use Rattle.goals.specs.declared.line.Line.{Line}
 use Rattle.script_claims.specs.declared.claim.Claim.{Claim}
-use Rattle.script_claims.specs.Facts.{goal_of, facts_of}
 use Rattle.script_grammar.specs.Cases.{cases_of}
 use Rattle.script_grammar.specs.Spells.{View}
 use Rattle.rule_universe.specs.Assumed.{assuming}
@@ -39,17 +37,6 @@ bare u = assuming u []
 pub record IsPlanned (s : View) (depth : ℕ) (u : World) (planned : List Case) : Type 0 where
   pub universe : (before : List Claim) × IsUniverse s before u
   pub cases : AreCases s depth (cases_of s) planned
-
--- what certificates of a script are judged against, by its universe and its marks
-abbrev pub subject_in : View → World → List HintMark → Subject
-subject_in s u marks = record {
-  nodes = s.nodes;
-  variables = length s.variables;
-  cases = map facts_of (cases_of s);
-  goals = map goal_of s.goals;
-  marks = marks;
-  hints = u.hints;
-}
 
 -- A certificate of the script with these lines: over its universe, judged against this subject,
 -- where a box is settled in so many rounds, and halved so often at most.

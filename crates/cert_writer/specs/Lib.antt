@@ -1,4 +1,3 @@
-pub mod Files
 pub mod Heads
 pub mod Boxes
 pub mod Standing

@@ -17,7 +17,7 @@ use Rattle.cert_checker.specs.Checking.{IsAnswer}
 use Rattle.script_checker.specs.Checking.{ComesFor, AreAcceptedFor}
 use Rattle.whole_texts.specs.Texts.{IsText}
 use Rattle.command_runs.specs.Runs.{Bytes, Told}
-use Rattle.script_texts.specs.Texts.{read_whole}
+use Rattle.script_texts.proofs.Texts.{read_whole}
 use Rattle.check_command.specs.Checked.{IsAcceptable}
 
 comes_of : SpelledAreAccepted → SpellsOnce → (s : View) → Spells s.text s → (all : Bytes)

@@ -6,16 +6,16 @@ use Rattle.command_line.specs.Check.{AskedCheck}
 use Rattle.whole_texts.specs.Texts.{IsText}
 use Rattle.whole_texts.specs.declared.read.ReadStop.{ReadStop}
 use Rattle.whole_texts.specs.declared.read.ReadStop.TheVariants as stop
-use Rattle.command_runs.specs.Ends.{IsOnce, IsPutBy, IsStopPutBy, or_unread, put_comes, put_runs}
-use Rattle.command_runs.specs.Ends.{run_by, stop_comes, stop_runs, unread_kept, unread_once}
+use Rattle.command_runs.proofs.Ends.{IsOnce, IsPutBy, IsStopPutBy, or_unread, put_comes, put_runs}
+use Rattle.command_runs.proofs.Ends.{run_by, stop_comes, stop_runs, unread_kept, unread_once}
 use Rattle.command_runs.specs.Fates.{AreTold, IsKeptFile, IsTold, MayWrite, Runs, ending, Comes}
 use Rattle.command_runs.specs.Fates.Ending.{Done}
 use Rattle.command_runs.specs.Fates.Left.{Kept}
 use Rattle.command_runs.specs.Runs.{Bytes, Run, IsKept, ReadFailed}
 use Rattle.command_runs.specs.declared.status.Status.{Status}
 use Rattle.command_runs.specs.declared.status.Status.TheVariants as status
-use Rattle.script_texts.specs.Texts.{IsLong, ReadsBehind, long_refused, no_script, told_script}
-use Rattle.script_texts.specs.Texts.{told_text}
+use Rattle.script_texts.proofs.Texts.{IsLong, long_refused, no_script, told_script, told_text}
+use Rattle.script_texts.specs.Texts.{ReadsBehind}
 use Rattle.check_command.specs.Checked.{CheckPrints, IsAcceptable}
 use Rattle.check_command.specs.Command.{CheckFate, CheckTold, IsCheckRun}
 use Rattle.check_command.specs.Laws.{CheckAnswersAreOne, IsCertTold}

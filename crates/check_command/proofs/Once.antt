@@ -2,7 +2,8 @@
 use Rattle.std.proofs.Common.{◌≡◌, inl, inr, Option, Some, refl, sym, ap, ◌∙◌, subst}
 use Rattle.script_judge.specs.First.{FirstsAreUnique}
 use Rattle.script_grammar.specs.Spells.{View, Spells, SpellsOnce, NeverBoth}
-use Rattle.rewrite_hints.specs.Marks.{AreMarks, marks_are_one}
+use Rattle.rewrite_hints.specs.Marks.{AreMarks}
+use Rattle.rewrite_hints.proofs.MarksLaws.{marks_are_one}
 use Rattle.cert_bytes.specs.declared.style.Style.TheVariants.{First}
 use Rattle.cert_bytes.specs.Reading.{cursor}
 use Rattle.cert_checker.specs.Contexts.{Context}
@@ -13,7 +14,7 @@ use Rattle.command_runs.specs.declared.status.Status.TheVariants.{Answered, Cert
 use Rattle.command_runs.specs.declared.status.Status.TheVariants as status
 use Rattle.report.specs.Proved.{answer_text}
 use Rattle.report.specs.Certificates.{cert_fault_line, check_fault_line}
-use Rattle.script_texts.specs.Texts.{refused_once}
+use Rattle.script_texts.proofs.Texts.{refused_once}
 use Rattle.check_command.specs.Checked.{IsChecked, IsFaulty}
 use Rattle.check_command.specs.Laws.{CheckAnswersAreOne}
 

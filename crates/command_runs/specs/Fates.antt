@@ -137,10 +137,6 @@ IsKeptFile left = left ≡ Kept
 abbrev pub Makes : (Bytes → Type 0) → Left → Type 0
 Makes P left = (bytes : Option Bytes) × (left ≡ Whole bytes) × IfSome bytes P
 
--- a front of such bytes may stand there, or what it held
-abbrev pub MayBegin : (Bytes → Type 0) → Left → Type 0
-MayBegin P left = (left ≡ Kept) ⊎ ((bytes : Option Bytes) × (left ≡ Begun bytes) × IfSome bytes P)
-
 -- ---- texts that are read
 -- a text is what the folder tells of a name; of a name that isn't told, it is any text
 abbrev pub IsTold : Option Bytes → Bytes → Type 0

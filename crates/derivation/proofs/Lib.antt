@@ -1,0 +1,14 @@
+pub mod Rounds
+pub mod Parts
+pub mod Best
+pub mod Steps
+pub mod Ahead
+pub mod Heights
+pub mod Rebased
+pub mod Begun
+pub mod Exists
+pub mod Sound
+pub mod States
+pub mod Changes
+pub mod Counts
+pub mod Sets

@@ -4,16 +4,10 @@ pub mod Known
 pub mod Settled
 pub mod Rounds
 pub mod Parts
-pub mod Best
-pub mod Steps
-pub mod Ahead
-pub mod Heights
-pub mod Rebased
 pub mod Begun
 pub mod Exists
 pub mod Sound
 pub mod Decided
-pub mod States
 pub mod Changes
 pub mod Counted
 pub mod Counts

@@ -21,12 +21,6 @@ abbrev pub IsBlank : At → Type 0
 IsBlank at = (s : Slot) → at s ≡ None
 
 -- ---- what an instance concludes
--- the table has these facts on these slots
-abbrev pub Reads : At → List Slot → List Fact → Type 0
-Reads at [] [] = Unit {0}
-Reads at (s ∷ ss) (p ∷ ps) = (at s ≡ Some p) × Reads at ss ps
-Reads at _ _ = ⊥
-
 -- The facts with one more before them; none where that one or the others are missing.
 abbrev pub with_first : Option Fact → Option (List Fact) → Option (List Fact)
 with_first (Some p) (Some ps) = Some (p ∷ ps)

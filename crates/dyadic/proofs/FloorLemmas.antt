@@ -13,12 +13,15 @@ use Rattle.std.proofs.lemmas.Bool.{cases_lt}
 use Rattle.std.proofs.lemmas.Int.{ints, by_lt_z, to_z-of_z, unsigned_abs-mul, fits_signed_mul}
 use Rattle.std.proofs.lemmas.Int.{fits_signed_from_abs}
 use Rattle.std.proofs.lemmas.Nat.{div-add-mod', leading_top, mod_below, mul-le, pow_pos, pow-add}
-use Rattle.fx_model.specs.Fraction.{Fraction, ◌+ℚ◌, ◌*ℚ◌, ◌≤ℚ◌, ◌<ℚ◌, neg_ℚ, neg-neg, neg-lt}
-use Rattle.fx_model.specs.Fraction.{le_refl, le_trans, lt_not, le_lt_trans, le_or_lt, add-le}
-use Rattle.fx_model.specs.Fraction.{add-lt, mul_comm, zero-mul}
+use Rattle.fx_model.specs.Fraction.{Fraction, ◌+ℚ◌, ◌*ℚ◌, ◌≤ℚ◌, ◌<ℚ◌, neg_ℚ, neg-neg, le_refl}
+use Rattle.fx_model.specs.Fraction.{le_trans, lt_not, le_lt_trans, le_or_lt, add-le, add-lt}
+use Rattle.fx_model.specs.Fraction.{mul_comm, zero-mul}
+use Rattle.fx_model.proofs.Fraction.{neg-lt}
 use Rattle.fx_model.specs.Powers.{scaled, scaled-le, scaled-le_out, scaled-lt, scaled-lt_out}
-use Rattle.fx_model.specs.Powers.{scaled-shift, scaled-zero, scaled-add}
-use Rattle.fx_model.specs.Grid.{IsOnGrid, IsOnGrid-neg, IsDown, At, scaled-neg, scaled-mul}
+use Rattle.fx_model.specs.Powers.{scaled-shift, scaled-zero}
+use Rattle.fx_model.proofs.Powers.{scaled-add}
+use Rattle.fx_model.specs.Grid.{IsOnGrid, IsOnGrid-neg, IsDown, At, scaled-neg}
+use Rattle.fx_model.proofs.Grid.{scaled-mul}
 use Rattle.fx_model.specs.Cut.{on_grid, next_grid, up_least}
 use Rattle.dyadic.specs.Floors.{Floored, IsLong}
 use Rattle.dyadic.proofs.GridLemmas.{zero_in}

@@ -10,7 +10,8 @@ use Rattle.std.proofs.lemmas.Bool.{cases_lt}
 use Rattle.std.proofs.Math.Nat.{mul-le-mul_right, pow-le-pow_right}
 use Rattle.fx_model.specs.Fraction.{Fraction, zero_ℚ}
 use Rattle.fx_model.specs.Powers.{scaled, scaled-shift, scaled-zero, scaled-same}
-use Rattle.fx_model.specs.Grid.{IsOnGrid, IsOnGrid-neg, signed, signed-size, signed-signed}
+use Rattle.fx_model.specs.Grid.{IsOnGrid, IsOnGrid-neg, signed}
+use Rattle.fx_model.proofs.Grid.{signed-size, signed-signed}
 use Rattle.fx_model.specs.Cut.{on_grid}
 use Rattle.dyadic.specs.Odd.{above}
 use Rattle.dyadic.specs.Canonical.{IsCanonical, odd_canonical}

@@ -10,3 +10,11 @@ pub mod RatioLemmas
 pub mod RisingLemmas
 pub mod ShiftLemmas
 pub mod SumLemmas
+pub mod Canonical
+pub mod Compared
+pub mod Ends
+pub mod Extremes
+pub mod Made
+pub mod Rising
+pub mod SmallNumbers
+pub mod Values

@@ -7,7 +7,8 @@ use Rattle.std.proofs.lemmas.Int.{ints}
 use Rattle.fx_model.specs.Fraction.{Fraction, neg_ℚ, neg-neg, le_refl}
 use Rattle.fx_model.specs.Powers.{scaled, scaled-shift, scaled-zero}
 use Rattle.fx_model.specs.Grid.{IsOnGrid, scaled-neg, Below, At, Above, IsDown, IsUp, IsDown-neg}
-use Rattle.fx_model.specs.Grid.{IsUp-neg, signed, signed-signed}
+use Rattle.fx_model.specs.Grid.{IsUp-neg, signed}
+use Rattle.fx_model.proofs.Grid.{signed-signed}
 use Rattle.fx_model.specs.Cut.{Cuts, Full, down_is, up_is, up_is_exact}
 use Rattle.dyadic.specs.Canonical.{IsCanonical}
 

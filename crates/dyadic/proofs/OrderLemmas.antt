@@ -20,7 +20,7 @@ use Rattle.fx_model.specs.Powers.{whole-neg, one-whole, two_to-pos}
 use Rattle.dyadic.specs.declared.number.End.{End}
 use Rattle.dyadic.specs.declared.number.Dyadic.{Dyadic}
 use Rattle.dyadic.specs.Values.{value_of}
-use Rattle.dyadic.specs.Compared.{value_cmp-equal}
+use Rattle.dyadic.proofs.Compared.{value_cmp-equal}
 use Rattle.dyadic.specs.Order.{cmp_by, value_cmp}
 
 pub int_less : (m n : ℤ) → m <ℤ n → int_cmp m n ≡ Less

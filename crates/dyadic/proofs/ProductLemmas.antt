@@ -5,7 +5,8 @@ use Rattle.std.proofs.Common.{◌∙◌, refl}
 use Rattle.std.specs.Int.RustNames.{int_lt, unsigned_abs}
 use Rattle.fx_model.specs.Fraction.{Fraction, ◌*ℚ◌}
 use Rattle.fx_model.specs.Powers.{whole, scaled}
-use Rattle.fx_model.specs.Grid.{signed, signed-mul, signed-size, scaled-mul}
+use Rattle.fx_model.specs.Grid.{signed}
+use Rattle.fx_model.proofs.Grid.{signed-mul, signed-size, scaled-mul}
 use Rattle.fx_model.specs.Cut.{Cuts}
 use Rattle.dyadic.specs.declared.number.Dyadic.{Dyadic}
 use Rattle.dyadic.specs.Values.{value_of}

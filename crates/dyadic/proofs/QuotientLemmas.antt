@@ -6,9 +6,11 @@ use Rattle.std.specs.Int.RustNames.{int_lt, unsigned_abs}
 use Rattle.std.proofs.lemmas.Int.{ints}
 use Rattle.std.proofs.lemmas.Bool.{cases_lt}
 use Rattle.fx_model.specs.Fraction.{Fraction, ◌*ℚ◌, ◌/ℚ◌, inverse_ℚ, zero_ℚ, one_ℚ, one-mul}
-use Rattle.fx_model.specs.Fraction.{mul_comm, mul_assoc, mul_cancel, mul-inverse}
+use Rattle.fx_model.specs.Fraction.{mul_comm, mul_assoc, mul-inverse}
+use Rattle.fx_model.proofs.Fraction.{mul_cancel}
 use Rattle.fx_model.specs.Powers.{whole, two_to, scaled, scaled-zero, two_to-add, two_to-positive}
-use Rattle.fx_model.specs.Grid.{signed, signed-mul, signed-size}
+use Rattle.fx_model.specs.Grid.{signed}
+use Rattle.fx_model.proofs.Grid.{signed-mul, signed-size}
 use Rattle.fx_model.specs.Cut.{Cuts}
 use Rattle.dyadic.specs.declared.number.Dyadic.{Dyadic}
 use Rattle.dyadic.specs.Values.{value_of}

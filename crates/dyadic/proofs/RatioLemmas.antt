@@ -9,11 +9,14 @@ use Rattle.std.proofs.lemmas.Nat.{leading_top, shl_whole, pow-add}
 use Rattle.std.proofs.lemmas.Bool.{cases_lt, ltb-true, ltb-false}
 use Rattle.std.proofs.lemmas.Int.{ints}
 use Rattle.fx_model.specs.Fraction.{Fraction, ◌*ℚ◌, ◌≤ℚ◌, ◌<ℚ◌, neg_ℚ, zero_ℚ, inverse_ℚ, neg-neg}
-use Rattle.fx_model.specs.Fraction.{le_refl, lt_le, lt_not, mul_assoc, one-mul, mul-inverse, neg-lt}
+use Rattle.fx_model.specs.Fraction.{le_refl, lt_le, lt_not, mul_assoc, one-mul, mul-inverse}
+use Rattle.fx_model.proofs.Fraction.{neg-lt}
 use Rattle.fx_model.specs.Powers.{whole, whole-mul, whole-lt, zero-whole, two_to-pos, scaled}
 use Rattle.fx_model.specs.Powers.{scaled-shift, scaled-zero}
-use Rattle.fx_model.specs.Grid.{signed, signed-signed, scaled-neg}
-use Rattle.fx_model.specs.Cut.{Cuts, quotient_is}
+use Rattle.fx_model.specs.Grid.{signed, scaled-neg}
+use Rattle.fx_model.proofs.Grid.{signed-signed}
+use Rattle.fx_model.specs.Cut.{Cuts}
+use Rattle.fx_model.proofs.Cut.{quotient_is}
 use Rattle.dyadic.specs.Floors.{Floored, IsFloor}
 use Rattle.dyadic.specs.declared.floor.Floor.{Floor}
 use Rattle.dyadic.proofs.GridLemmas.{same_scaled}

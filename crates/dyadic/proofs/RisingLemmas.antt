@@ -5,7 +5,8 @@ use Rattle.std.proofs.Math.Seq.{set-append_seam}
 use Rattle.std.proofs.lemmas.List.{length-set, length-take-le, append_assoc, take_more_set}
 use Rattle.dyadic.specs.declared.number.Dyadic.{Dyadic}
 use Rattle.dyadic.specs.Values.{zero_number}
-use Rattle.dyadic.specs.Rising.{points_in, IsRising, IsAboveLast, IsPadded, rising_more}
+use Rattle.dyadic.specs.Rising.{points_in, IsRising, IsAboveLast, IsPadded}
+use Rattle.dyadic.proofs.Rising.{rising_more}
 use Rattle.dyadic.specs.declared.points.Points.TheInside.{Inside}
 
 pub rising_set : (numbers : List Dyadic) (len : ℕ) (p : Dyadic)

@@ -11,8 +11,10 @@ use Rattle.std.proofs.Math.Nat.{pow-le-pow_right, mul-le-mul_left, mul-le-mul_ri
 use Rattle.std.proofs.lemmas.Nat.{pow_pos, pow-add}
 use Rattle.std.proofs.lemmas.Bool.{cases_lt}
 use Rattle.fx_model.specs.Fraction.{Fraction, ◌+ℚ◌, neg_ℚ, neg-neg, neg-add, zero-add}
-use Rattle.fx_model.specs.Powers.{whole, scaled, scaled-shift, scaled-zero, scaled-add}
-use Rattle.fx_model.specs.Grid.{signed, signed-size, scaled-neg}
+use Rattle.fx_model.specs.Powers.{whole, scaled, scaled-shift, scaled-zero}
+use Rattle.fx_model.proofs.Powers.{scaled-add}
+use Rattle.fx_model.specs.Grid.{signed, scaled-neg}
+use Rattle.fx_model.proofs.Grid.{signed-size}
 use Rattle.fx_model.specs.Cut.{Cuts}
 use Rattle.dyadic.proofs.NumberLemmas.{same_cut}
 use Rattle.dyadic.specs.declared.number.Dyadic.{Dyadic}

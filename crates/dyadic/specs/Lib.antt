@@ -10,6 +10,5 @@ pub mod Odd
 pub mod Order
 pub mod Places
 pub mod Rising
-pub mod SmallNumbers
 pub mod Texts
 pub mod Values

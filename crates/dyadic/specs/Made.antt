@@ -15,7 +15,7 @@ use Rattle.dyadic.specs.Canonical.{IsCanonical, odd_canonical}
 use Rattle.dyadic.specs.declared.number.Dyadic.{Dyadic}
 use Rattle.dyadic.specs.declared.number.End.{End}
 use Rattle.dyadic.specs.declared.number.End.TheVariants.{Low, At, High}
-use Rattle.dyadic.specs.Values.{value_of, zero_number, on_grid}
+use Rattle.dyadic.specs.Values.{value_of, zero_number}
 use Rattle.dyadic.specs.Ends.{bound_of}
 
 -- n is odd * 2^k
@@ -147,9 +147,3 @@ unfolding end_of
 end_of-bound grid.Below g = refl
 end_of-bound (grid.At x) g = ap grid.At (number_of-value x g)
 end_of-bound grid.Above g = refl
-
--- each end is of the grid
-pub grid_bound : (e : End) → IsGridBound (bound_of e)
-grid_bound Low = tt
-grid_bound (At d) = on_grid d
-grid_bound High = tt

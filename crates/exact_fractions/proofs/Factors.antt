@@ -16,13 +16,14 @@ use Rattle.fx_model.specs.Fraction.{neg-mul, zero-mul, le_refl, ◌≤ℚ◌, ab
 use Rattle.fx_model.specs.Fraction.{le_in, lt_by}
 use Rattle.fx_model.specs.Powers.{whole, whole-neg, zero-whole}
 use Rattle.exact_fractions.specs.declared.exact.Exact.{Exact}
-use Rattle.exact_fractions.specs.Divisors.{gcd, gcd_is, gcd_of, gcd_positive, AreCoprime}
-use Rattle.exact_fractions.specs.Divisors.{divides_other, cofactors}
+use Rattle.exact_fractions.specs.Divisors.{gcd, gcd_is, gcd_positive, AreCoprime, divides_other}
+use Rattle.exact_fractions.specs.Divisors.{cofactors}
+use Rattle.exact_fractions.proofs.Divisors.{gcd_of}
 use Rattle.exact_fractions.specs.Reduced.{numerator, denominator, over, signed_number, cofactor}
 use Rattle.exact_fractions.specs.Reduced.{IsLowest, IsSmall}
-use Rattle.exact_fractions.specs.Lowest.{lowest_ratio, over-mk, numerator-over, denominator-over}
-use Rattle.exact_fractions.specs.Lowest.{quotient_positive, unsigned_abs-signed, reduced_small}
-use Rattle.exact_fractions.specs.Lowest.{over_reduced}
+use Rattle.exact_fractions.proofs.Lowest.{lowest_ratio, over-mk, numerator-over, denominator-over}
+use Rattle.exact_fractions.proofs.Lowest.{quotient_positive, unsigned_abs-signed, reduced_small}
+use Rattle.exact_fractions.proofs.Lowest.{over_reduced}
 use Rattle.exact_fractions.specs.Exact.{value_of}
 use Rattle.exact_fractions.proofs.Numbers.{over-cancel, over-le_out, num_is, den_is}
 

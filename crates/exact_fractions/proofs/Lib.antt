@@ -5,3 +5,5 @@ pub mod Tens
 pub mod Sides
 pub mod Rounded
 pub mod Orders
+pub mod Divisors
+pub mod Lowest

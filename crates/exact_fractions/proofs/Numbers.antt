@@ -16,8 +16,8 @@ use Rattle.fx_model.specs.Powers.{whole, whole-add}
 use Rattle.exact_fractions.specs.declared.exact.Exact.{Exact}
 use Rattle.exact_fractions.specs.Divisors.{gcd, gcd_is, gcd_positive}
 use Rattle.exact_fractions.specs.Reduced.{numerator, denominator, over}
-use Rattle.exact_fractions.specs.Lowest.{lowest_ratio, over-mk, over_parts, numerator-over}
-use Rattle.exact_fractions.specs.Lowest.{denominator-over, denominator-positive, quotient_positive}
+use Rattle.exact_fractions.proofs.Lowest.{lowest_ratio, over-mk, over_parts, numerator-over}
+use Rattle.exact_fractions.proofs.Lowest.{denominator-over, denominator-positive, quotient_positive}
 use Rattle.exact_fractions.specs.Exact.{value_of, IsOrder}
 use Rattle.exact_fractions.specs.Wide.{shared, left_number, right_number, common_denominator}
 

@@ -18,12 +18,13 @@ use Rattle.fx_model.specs.Fraction.{Same, Fraction, ◌*ℚ◌, zero_ℚ, one_�
 use Rattle.fx_model.specs.Powers.{whole, whole-mk, two_to, two_to_ratio, two_to-mk, two_to-pos}
 use Rattle.fx_model.specs.Powers.{zero-whole, one-whole}
 use Rattle.exact_fractions.specs.declared.exact.Exact.{Exact}
-use Rattle.exact_fractions.specs.Divisors.{gcd, gcd_of, AreCoprime}
+use Rattle.exact_fractions.specs.Divisors.{gcd, AreCoprime}
+use Rattle.exact_fractions.proofs.Divisors.{gcd_of}
 use Rattle.exact_fractions.specs.Narrow.{is_narrow}
 use Rattle.exact_fractions.specs.Reduced.{numerator, denominator, over, signed_number, IsLowest}
 use Rattle.exact_fractions.specs.Reduced.{IsSmall}
-use Rattle.exact_fractions.specs.Lowest.{lowest_ratio, over-mk, numerator-over, denominator-over}
-use Rattle.exact_fractions.specs.Lowest.{unsigned_abs-signed}
+use Rattle.exact_fractions.proofs.Lowest.{lowest_ratio, over-mk, numerator-over, denominator-over}
+use Rattle.exact_fractions.proofs.Lowest.{unsigned_abs-signed}
 use Rattle.exact_fractions.specs.Exact.{value_of}
 use Rattle.exact_fractions.specs.Wide.{are_narrow, numbers_of}
 use Rattle.exact_fractions.specs.Twos.{LosesTwos}

@@ -16,7 +16,7 @@ use Rattle.fx_model.specs.Rounded.{floor, ceiling, near_low, near_high, half, is
 use Rattle.fx_model.specs.declared.Direction.{Direction}
 use Rattle.fx_model.specs.declared.Direction.TheVariants.{Zr, Aw, Dn, Up, Od, Ne, No, Nz, Na, Nd}
 use Rattle.fx_model.specs.declared.Direction.TheVariants.{Nu}
-use Rattle.rounding.specs.Shifts.{near_low-neg}
+use Rattle.rounding.proofs.Shifts.{near_low-neg}
 use Rattle.rounding.specs.declared.neighbours.Neighbours.{Neighbours}
 use Rattle.rounding.specs.Chosen.{AreNeighbours, chosen, is_from_zero}
 use Rattle.exact_fractions.specs.declared.roundings.Sizes.{Sizes}

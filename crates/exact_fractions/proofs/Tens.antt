@@ -3,13 +3,13 @@ use lib.IntN.{neg_ℤ}
 use Rattle.std.specs.Prelude.{◌≡◌, ℕ, ℤ, pos, ◌<◌, Bool, true, false, Option, refl}
 use Rattle.std.proofs.Common.{sym, ap, ◌∙◌, subst}
 use Rattle.fx_model.specs.Fraction.{Fraction, ◌*ℚ◌, inverse_ℚ, mul_comm, mul_assoc, mul-inverse}
-use Rattle.fx_model.specs.Fraction.{mul-one}
+use Rattle.fx_model.proofs.Fraction.{mul-one}
 use Rattle.fx_model.specs.Powers.{whole, two_to, scaled}
 use Rattle.fx_model.specs.Grid.{signed}
 use Rattle.fx_model.specs.Expression.{literal_value}
 use Rattle.fx_model.specs.declared.Literal.{Literal}
-use Rattle.literal.specs.Tens.{not_zero, whole_positive}
-use Rattle.interval.specs.Written.{signed_ratio}
+use Rattle.literal.proofs.Tens.{not_zero, whole_positive}
+use Rattle.interval.proofs.Written.{signed_ratio}
 use Rattle.exact_fractions.specs.declared.exact.Exact.{Exact}
 use Rattle.exact_fractions.specs.Exact.{Gives}
 use Rattle.exact_fractions.specs.Wide.{numbers_of}

@@ -39,9 +39,6 @@ within_is (suc k) a b l = by (b == 0) refl (λ n. within_is k b (a % b) (rest_be
 pub gcd_is : (a b : ℕ) → IsGcd a b (gcd a b)
 gcd_is a b = within_is b a b (omega arith)
 
-pub gcd_of : (a b g : ℕ) → IsGcd a b g → gcd a b ≡ g
-gcd_of a b g h = same_from_IsGcd a b (gcd a b) g (gcd_is a b) h
-
 pub gcd_positive : (a b : ℕ) → 0 < b → 0 < gcd a b
 gcd_positive a b p = by (gcd a b) (gcd_is a b).1
   where

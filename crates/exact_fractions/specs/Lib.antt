@@ -1,7 +1,6 @@
 pub mod Divisors
 pub mod Narrow
 pub mod Reduced
-pub mod Lowest
 pub mod Wide
 pub mod Exact
 pub mod Examples

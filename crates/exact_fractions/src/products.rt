@@ -46,7 +46,7 @@ fn product_bottom(x: Exact, y: Exact, g: u128, h: u128) -> Option<u128>
 }
 
 // The product, from its numbers.
-#[tactic(auto, using(crate::specs::Lowest::parts_small, crate::specs::Lowest::over_parts))]
+#[tactic(auto, using(crate::proofs::Lowest::parts_small, crate::proofs::Lowest::over_parts))]
 fn multiplied(x: Exact, y: Exact, top: i128, bottom: u128) -> Exact
     requires top { top ≡ numerator (value_of x *ℚ value_of y) }
     requires bottom { bottom ≡ denominator (value_of x *ℚ value_of y) }

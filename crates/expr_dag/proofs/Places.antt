@@ -16,7 +16,7 @@ use Rattle.fx_model.specs.declared.Node.{Node}
 use Rattle.fx_model.specs.Expression.{Assignment, IsOrdered, value}
 use Rattle.expr_dag.specs.Nodes.{same_node, IsLawful, IsAt, IsAbsent, IsShared, IsFound, IsLast}
 use Rattle.expr_dag.specs.Nodes.{IsPlaced, IsKept, place_of, placed, with_node, numbered}
-use Rattle.expr_dag.specs.Same.{same, itself}
+use Rattle.expr_dag.proofs.Same.{same, itself}
 use Rattle.expr_dag.proofs.Values.{value_stays}
 
 abbrev number : ℕ → ExprId

@@ -5,8 +5,8 @@ use Rattle.std.proofs.lemmas.List.{get_or_append_left}
 use Rattle.fx_model.specs.declared.ExprId.{ExprId}
 use Rattle.fx_model.specs.declared.Node.{Node}
 use Rattle.fx_model.specs.declared.Node.TheVariants.{Var}
-use Rattle.fx_model.specs.Expression.{Assignment, IsOrdered, node_value, value, value_step}
-use Rattle.fx_model.specs.Expression.{same_children}
+use Rattle.fx_model.specs.Expression.{Assignment, IsOrdered, node_value, value, same_children}
+use Rattle.fx_model.proofs.Expression.{value_step}
 
 module _ (nodes more : List Node) (a : Assignment) (o : IsOrdered nodes)
     (p : IsOrdered (nodes ++ more)) where

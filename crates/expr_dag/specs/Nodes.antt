@@ -1,7 +1,6 @@
 -- The list of shared nodes.
 use Rattle.std.specs.Prelude.{◌≡◌, ℕ, ◌<◌, ◌≤◌, pos, negsuc, Bool, List, [], ◌∷◌, ◌++◌, length}
 use Rattle.std.specs.Prelude.{slice_get, position, Option, Some, None, ◌⊎◌, ⊤}
-use Rattle.std.proofs.Common.{sym, ◌∙◌}
 use Rattle.fx_model.specs.declared.ExprId.{ExprId}
 use Rattle.fx_model.specs.declared.Node.{Node}
 use Rattle.fx_model.specs.declared.Node.TheVariants.{Var, Lit, Neg, Add, Sub, Mul, Div, Abs, Round}
@@ -43,8 +42,6 @@ pub record IsShared (nodes : List Node) : Type 0 where
   pub distinct : (x y : ExprId) (n : Node) → IsAt nodes x n → IsAt nodes y n → x ≡ y
   pub short : length nodes ≤ 1024
 
--- ---- adding a node
-
 -- The node was there, with number x, and the list stays.
 pub record IsFound (old : List Node) (n : Node) (new : List Node) (x : ExprId) : Type 0 where
   pub there : IsAt old x n
@@ -73,8 +70,6 @@ pub record IsFull (nodes : List Node) (n : Node) : Type 0 where
   pub absent : IsAbsent nodes n
   pub long : length nodes ≡ 1024
 
--- ---- the same as functions
-
 -- whether two nodes are one, as the program compares them
 abbrev pub same_node : Node → Node → Bool
 same_node = (node_eq.ghosts).eq
@@ -96,7 +91,3 @@ placed nodes n None = (nodes ++ n ∷ [], record { 0 = length nodes })
 -- The list with a node, and the node's number.
 abbrev pub with_node : List Node → Node → List Node × ExprId
 with_node nodes n = placed nodes n (place_of nodes n)
-
-pub one_node : (nodes : List Node) (x : ExprId) (m n : Node) → IsAt nodes x m
-    → IsAt nodes x n → m ≡ n
-one_node nodes x m n a b = let e = sym a ∙ b in cc

@@ -1,0 +1,15 @@
+pub mod Ranges
+pub mod Parts
+pub mod CommonParts
+pub mod Laws
+pub mod Meets
+pub mod Within
+pub mod Held
+pub mod SizesWithin
+pub mod Premises
+pub mod Conclusions
+pub mod Known
+pub mod RelatedZeros
+pub mod RelativePremises
+pub mod RelativeConclusions
+pub mod Rows

@@ -3,17 +3,9 @@ pub mod Parts
 pub mod Places
 pub mod Holds
 pub mod Order
-pub mod CommonParts
-pub mod Laws
-pub mod Meets
 pub mod Within
-pub mod Held
 pub mod Promises
-pub mod SizesWithin
 pub mod Premises
 pub mod Conclusions
-pub mod Known
-pub mod RelatedZeros
-pub mod RelativePremises
 pub mod RelativeConclusions
 pub mod Rows

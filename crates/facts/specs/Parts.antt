@@ -35,9 +35,6 @@ size_from-some i z = made-some (λ i. IsFromZero (range_of i)) (λ i. IsFromZero
     (λ i e. BoundLe_in (At zero_ℚ) (range_of i).low e)
     (λ i z. BoundLe_out (At zero_ℚ) (range_of i).low z) sized i z
 
-pub size_from_self : (s : Size) → Some s ≡ size_from s.interval
-size_from_self s = sym (size_from-some s.interval s.from_zero)
-
 pub size_from-none : (i : Interval) → ¬ IsFromZero (range_of i) → size_from i ≡ None
 unfolding size_from
 size_from-none i n = made-none (λ i. IsFromZero (range_of i)) (λ i. IsFromZero-prop (range_of i))
@@ -70,9 +67,6 @@ error_from-some i z = made-some (λ i. IsAboveMinusOne (range_of i))
     (λ i. IsAboveMinusOne-prop (range_of i)) (λ i. is_below (neg_ℚ one_ℚ) (range_of i).low)
     (λ i e. is_below_in (neg_ℚ one_ℚ) (range_of i).low e)
     (λ i z. is_below_out (neg_ℚ one_ℚ) (range_of i).low z) erring i z
-
-pub error_from_self : (e : RelativeError) → Some e ≡ error_from e.interval
-error_from_self e = sym (error_from-some e.interval e.above_minus_one)
 
 pub error_from-none : (i : Interval) → ¬ IsAboveMinusOne (range_of i) → error_from i ≡ None
 unfolding error_from

@@ -3,7 +3,6 @@ use mathlib.Core.HLevel.{⊥_prop, Unit-prop}
 use Rattle.std.specs.Prelude.{◌≡◌, ⊤, Bool, true, false, not, refl}
 use Rattle.std.proofs.lemmas.Bool.{not-true}
 use Rattle.fx_model.specs.Fraction.{Fraction, ◌<ℚ◌, le_ℚ, zero_ℚ, one_ℚ, neg_ℚ, Le-prop, Lt-prop}
-use Rattle.fx_model.specs.Fraction.{lt_le_trans}
 use Rattle.fx_model.specs.Grid.{Bound, Below, At, Above}
 use Rattle.fx_model.specs.Enclosure.{Range, BoundLe}
 
@@ -56,13 +55,3 @@ pub is_below_out : (x : Fraction) (b : Bound) → IsBelow x b → is_below x b �
 is_below_out x Below l = absurd l
 is_below_out x (At g) l = rw l.lt
 is_below_out x Above l = refl
-
--- above it lies what is above what it is below
-pub IsBelow-mono : (x : Fraction) (b c : Bound) → IsBelow x b → BoundLe b c → IsBelow x c
-IsBelow-mono x Below c l m = absurd l
-IsBelow-mono x (At g) Below l m = m
-IsBelow-mono x (At g) (At h) l m = lt_le_trans x g h l m
-IsBelow-mono x (At g) Above l m = tt
-IsBelow-mono x Above Below l m = m
-IsBelow-mono x Above (At h) l m = absurd m
-IsBelow-mono x Above Above l m = tt

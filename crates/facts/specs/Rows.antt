@@ -2,7 +2,6 @@
 use Rattle.std.specs.Prelude.{◌≡◌, ⊤, Bool, true, false, List, Some}
 use Rattle.std.specs.List.{AllByRecursion}
 use Rattle.std.specs.Option.{IsSomeAnd}
-use Rattle.std.proofs.Common.{ap, ◌∙◌}
 use Rattle.fx_model.specs.Fraction.{Fraction, ◌≤ℚ◌, ◌<ℚ◌}
 use Rattle.fx_model.specs.Grid.{Bound, Below, At, Above}
 use Rattle.fx_model.specs.Expression.{Assignment, value}
@@ -47,11 +46,3 @@ AreMet nodes a row = AllByRecursion (IsMet nodes a) row.needs
 abbrev pub RowIsTrue : List Node → Assignment → HintRow → Type 0
 RowIsTrue nodes a row = AreNonzero nodes a row → AreMet nodes a row → (v : Fraction)
     → value nodes a row.right ≡ Some v → value nodes a row.left ≡ Some v
-
--- It is true where the divisors give the left side a value, and both sides, where they have values
--- and the constraints hold, the same.
-pub row_by_values : (nodes : List Node) (a : Assignment) (row : HintRow)
-    → (AreNonzero nodes a row → (u : Fraction) × (value nodes a row.left ≡ Some u))
-    → (AreMet nodes a row → (u v : Fraction) → value nodes a row.left ≡ Some u
-    → value nodes a row.right ≡ Some v → u ≡ v) → RowIsTrue nodes a row
-row_by_values nodes a row left same n m v r = let u = left n in u.1 ∙ ap Some (same m u.0 v u.1 r)

@@ -7,8 +7,8 @@ use Rattle.whole_texts.specs.Texts.{IsText}
 use Rattle.whole_texts.specs.declared.read.ReadStop.{ReadStop}
 use Rattle.whole_texts.specs.declared.read.ReadStop.TheVariants as stop
 use Rattle.command_runs.specs.Runs.{Bytes, Run, IsKept, ReadFailed, WriteFailed}
-use Rattle.command_runs.specs.Ends.{IsPutBy, IsStopPutBy, put_runs, stop_runs, unwritten_runs}
-use Rattle.command_runs.specs.Ends.{run_by, unread_kept, unread_once}
+use Rattle.command_runs.proofs.Ends.{IsPutBy, IsStopPutBy, put_runs, stop_runs, unwritten_runs}
+use Rattle.command_runs.proofs.Ends.{run_by, unread_kept, unread_once}
 use Rattle.command_runs.specs.Fates.{Left, Leaves, begun, Runs, MayWrite, IsKeptFile}
 use Rattle.command_runs.specs.declared.status.Status.{Status}
 use Rattle.command_runs.specs.declared.status.Status.TheVariants as status

@@ -4,7 +4,7 @@ use Rattle.fixprog.specs.declared.fault.ProgFault.{ProgFault}
 use Rattle.fixprog.specs.First.{IsFirstFault, FirstsAreUnique}
 use Rattle.command_line.specs.Fix.{AskedFix}
 use Rattle.command_runs.specs.Runs.{Bytes, Told, Run}
-use Rattle.command_runs.specs.Ends.{IsOnce, or_unread}
+use Rattle.command_runs.proofs.Ends.{IsOnce, or_unread}
 use Rattle.command_runs.specs.Fates.{Left, AreTold, IsTold, IsKeptFile, MayWrite, ending}
 use Rattle.command_runs.specs.Fates.Ending.{Done}
 use Rattle.command_runs.specs.Fates.Left.{Kept}

@@ -1,3 +1,4 @@
 pub mod Cut
 pub mod Fated
 pub mod Ended
+pub mod Sure

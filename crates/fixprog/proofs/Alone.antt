@@ -11,7 +11,7 @@ use Rattle.script_words.specs.declared.lex.TokenKind.TheVariants as kind
 use Rattle.script_words.specs.Literals.{is_in, run_len, part_len, signed_len, exponent_len}
 use Rattle.script_words.specs.Literals.{scaled_len, is_hex, literal_len}
 use Rattle.script_words.specs.Signs.{sign_at, reserved_word}
-use Rattle.script_words.specs.Within.{literal_from}
+use Rattle.script_words.proofs.Within.{literal_from}
 use Rattle.script_words.specs.Lex.{front, word_kind, sign_token}
 
 -- ---- so many bytes at the front have the same part, if that isn't longer

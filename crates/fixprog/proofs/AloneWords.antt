@@ -12,7 +12,7 @@ use Rattle.script_words.specs.declared.lex.TokenKind.TheVariants as script
 use Rattle.script_words.specs.Literals.{run_len, literal_len}
 use Rattle.script_words.specs.Signs.{sign_at, reserved_word}
 use Rattle.script_words.specs.Lex.{blank_len, word_kind, sign_token, front as script_front}
-use Rattle.script_words.specs.Within.{run-le, literal-le}
+use Rattle.script_words.proofs.Within.{run-le, literal-le}
 use Rattle.fixprog.specs.declared.token.Kind.{Kind}
 use Rattle.fixprog.specs.declared.token.Kind.TheVariants as kind
 use Rattle.fixprog.specs.declared.token.ProgramToken.{ProgramToken}

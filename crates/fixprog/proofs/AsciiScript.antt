@@ -13,7 +13,7 @@ use Rattle.std.proofs.lemmas.Str.{IsAscii-append, IsUtf8-from_ascii}
 use Rattle.std.proofs.lemmas.Str.Ascii.{IsAscii-from_all, IsAscii-nil}
 use Rattle.std.proofs.Math.Nat.{pow-le-pow_right}
 use Rattle.std.proofs.lemmas.Bool.{and_parts}
-use Rattle.script_cases.specs.Lists.{all_front, all_behind}
+use Rattle.script_cases.proofs.Lists.{all_front, all_behind}
 use Rattle.fixprog.specs.declared.program.Mark.{Mark}
 use Rattle.fixprog.specs.declared.program.Mark.TheVariants as mark
 use Rattle.fixprog.specs.Words.{Name}
@@ -37,7 +37,7 @@ use Rattle.fixprog.proofs.AsciiWords.{IsPlainOperand, IsPlainOperation, IsPlainW
 use Rattle.fixprog.proofs.AsciiWords.{IsPlainStep, IsPlainStatement}
 use Rattle.fixprog.proofs.Faultless.{fine, all_fine}
 use Rattle.fixprog.proofs.Common.{all_of}
-use Rattle.fixprog.specs.Narrow.{IsNarrow, narrow}
+use Rattle.fixprog.proofs.Narrow.{IsNarrow, narrow}
 
 plain : (bs : List ℕ) → Plain bs → IsAscii bs
 plain bs h = IsAscii-from_all bs (all_of (λ b. b < 128) bs h)

@@ -5,7 +5,7 @@ use Rattle.std.specs.List.{AllByRecursion}
 use Rattle.script_words.specs.declared.class.Symbol.TheVariants as s
 use Rattle.script_words.specs.Literals.{literal_len, scaled_len}
 use Rattle.script_words.specs.Lex.{front as script_front}
-use Rattle.script_cases.specs.Lists.{all_joined}
+use Rattle.script_cases.proofs.Lists.{all_joined}
 use Rattle.fixprog.specs.declared.program.Mark.TheVariants as mark
 use Rattle.fixprog.specs.declared.program.Joint.TheVariants as joint
 use Rattle.fixprog.specs.declared.program.Shift.TheVariants as shift
@@ -17,13 +17,14 @@ use Rattle.fixprog.specs.Grammar.{shift_right, shift_left, negation, Bound, Inpu
 use Rattle.fixprog.specs.Grammar.{Step, Statement, input, step, output, statement_words, words_from}
 use Rattle.fixprog.specs.Grammar.{Program, program_words}
 use Rattle.fixprog.specs.First.{Begins}
-use Rattle.fixprog.specs.Standing.{Part, part_words, between, input_name, input_colon, input_format}
-use Rattle.fixprog.specs.Standing.{input_open, lower, lower_marked, comma, upper, upper_marked}
-use Rattle.fixprog.specs.Standing.{input_close, input_end, step_colon, step_format, step_way}
-use Rattle.fixprog.specs.Standing.{step_equal, step_operand, step_negated, step_operator}
-use Rattle.fixprog.specs.Standing.{step_second, step_places, step_end, output_name, output_end}
-use Rattle.fixprog.specs.Standing.{bound_of, Standing, with_statement}
-use Rattle.fixprog.specs.Finding.{Course}
+use Rattle.fixprog.specs.Standing.{Part, between, input_name, input_colon, input_format, input_open}
+use Rattle.fixprog.specs.Standing.{lower, lower_marked, comma, upper, upper_marked, input_close}
+use Rattle.fixprog.specs.Standing.{input_end, step_colon, step_format, step_way, step_equal}
+use Rattle.fixprog.specs.Standing.{step_operand, step_negated, step_operator, step_second}
+use Rattle.fixprog.specs.Standing.{step_places, step_end, output_name, output_end, bound_of}
+use Rattle.fixprog.specs.Standing.{Standing, with_statement}
+use Rattle.fixprog.proofs.Standing.{part_words}
+use Rattle.fixprog.proofs.Finding.{Course}
 use Rattle.fixprog.proofs.Course.{in_place, may_join, join_whole, one_word_more, whole, stand_words}
 use Rattle.fixprog.proofs.Course.{IsCourse}
 use Rattle.fixprog.proofs.Common.{all_of}

@@ -9,14 +9,15 @@ use Rattle.script_words.specs.declared.class.Symbol.TheVariants as s
 use Rattle.fixprog.specs.Words.{Name, Word, sign}
 use Rattle.fixprog.specs.Grammar.{Input, Step, Statement, input, step, output, statement_words}
 use Rattle.fixprog.specs.Grammar.{words_from}
-use Rattle.fixprog.specs.Standing.{Part, part_words, input_name, input_colon, input_format}
-use Rattle.fixprog.specs.Standing.{input_open, lower, lower_marked, comma, upper, upper_marked}
-use Rattle.fixprog.specs.Standing.{input_close, input_end, step_colon, step_format, step_way}
-use Rattle.fixprog.specs.Standing.{step_equal, step_operand, step_negated, step_operator}
-use Rattle.fixprog.specs.Standing.{step_second, step_places, step_end, output_end, is_semicolon}
-use Rattle.fixprog.specs.Standing.{Opening, ending, ended, Standing, is_none, with_statement}
-use Rattle.fixprog.specs.Standing.{stands_after}
-use Rattle.fixprog.specs.Finding.{finds, at_word, Course, begin_after, course_after}
+use Rattle.fixprog.specs.Standing.{Part, input_name, input_colon, input_format, input_open, lower}
+use Rattle.fixprog.specs.Standing.{lower_marked, comma, upper, upper_marked, input_close, input_end}
+use Rattle.fixprog.specs.Standing.{step_colon, step_format, step_way, step_equal, step_operand}
+use Rattle.fixprog.specs.Standing.{step_negated, step_operator, step_second, step_places, step_end}
+use Rattle.fixprog.specs.Standing.{output_end, is_semicolon, Opening, ending, ended, Standing}
+use Rattle.fixprog.specs.Standing.{is_none, with_statement, stands_after}
+use Rattle.fixprog.proofs.Standing.{part_words}
+use Rattle.fixprog.specs.Finding.{finds}
+use Rattle.fixprog.proofs.Finding.{at_word, Course, begin_after, course_after}
 use Rattle.fixprog.proofs.Takes.{Takes, input_begins, output_begins, step_begins, input_named}
 use Rattle.fixprog.proofs.Takes.{input_typed, input_formatted, opened, lower_signed, lower_plain}
 use Rattle.fixprog.proofs.Takes.{lower_valued, parted, upper_signed, upper_plain, upper_valued}

@@ -8,10 +8,12 @@ use Rattle.std.proofs.lemmas.List.Elements.{All-nil, All-append}
 use Rattle.fixprog.specs.Words.{Word}
 use Rattle.fixprog.specs.Grammar.{Statement, input, step, output, statement_words, words_from}
 use Rattle.fixprog.specs.Faults.{Fault}
-use Rattle.fixprog.specs.Standing.{Part, part_words, between, next_part, ended, Standing}
-use Rattle.fixprog.specs.Standing.{opening_of, with_statement, with_part, stands_by, stands_after}
-use Rattle.fixprog.specs.Finding.{finds, at_word, Course, begin_after, course_after, goes_on}
-use Rattle.fixprog.specs.Finding.{course_of, nothing_judged}
+use Rattle.fixprog.specs.Standing.{Part, between, next_part, ended, Standing, opening_of}
+use Rattle.fixprog.specs.Standing.{with_statement, with_part, stands_by, stands_after}
+use Rattle.fixprog.proofs.Standing.{part_words}
+use Rattle.fixprog.specs.Finding.{finds}
+use Rattle.fixprog.proofs.Finding.{at_word, Course, begin_after, course_after, goes_on, course_of}
+use Rattle.fixprog.proofs.Finding.{nothing_judged}
 use Rattle.fixprog.proofs.Takes.{Takes, next_takes, takes_words}
 use Rattle.fixprog.proofs.Found.{IsMarked, finds_told}
 use Rattle.fixprog.proofs.Course.{in_place, takes_place, takes_marked, ended_is, ending_words}

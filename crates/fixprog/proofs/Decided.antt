@@ -18,8 +18,10 @@ use Rattle.fixprog.specs.First.{IsProgram, Begins, Reading, IsReadingOf, fault, 
 use Rattle.fixprog.specs.First.{out_of_place, no_token, cut_short, judged, is_before, IsReadable}
 use Rattle.fixprog.specs.First.{IsFirstFault, first, faultless}
 use Rattle.fixprog.specs.Views.{program_with}
-use Rattle.fixprog.specs.Standing.{Part, part_words, between, Standing, is_whole}
-use Rattle.fixprog.specs.Finding.{placed, first_from, Course, course_of, nothing_judged}
+use Rattle.fixprog.specs.Standing.{Part, between, Standing, is_whole}
+use Rattle.fixprog.proofs.Standing.{part_words}
+use Rattle.fixprog.proofs.Finding.{placed, Course, course_of, nothing_judged}
+use Rattle.fixprog.specs.Finding.{first_from}
 use Rattle.fixprog.proofs.Course.{whole, IsCourse}
 use Rattle.fixprog.proofs.Courses.{course_goes, course_of-append, none_stays}
 use Rattle.fixprog.proofs.Completed.{begins_some}

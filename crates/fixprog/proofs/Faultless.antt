@@ -5,7 +5,7 @@ use Rattle.std.specs.List.{All, AllByRecursion}
 use Rattle.std.proofs.lemmas.List.{length-map}
 use Rattle.std.proofs.lemmas.Simd.{map-map}
 use Rattle.std.specs.Str.Parse.{digits_value}
-use Rattle.script_cases.specs.Lists.{all_front, all_behind}
+use Rattle.script_cases.proofs.Lists.{all_front, all_behind}
 use Rattle.fixprog.specs.declared.program.Program.{Program as CodeProgram}
 use Rattle.fixprog.specs.Words.{Name}
 use Rattle.fixprog.specs.Grammar.{Operation, copy, negation, sum, difference, product, shift_right}
@@ -16,7 +16,7 @@ use Rattle.fixprog.specs.Faults.{weight_faults, format_faults, operand_faults, o
 use Rattle.fixprog.specs.Faults.{statement_faults, faults_from, program_faults, is_way}
 use Rattle.fixprog.specs.Printed.{IsShort, IsPrintable, IsInputPrintable}
 use Rattle.fixprog.specs.Views.{input_of, step_of, program_with, program_of}
-use Rattle.fixprog.specs.NoFaults.{none_front, none_behind, not_if, no_if, short_by, light}
+use Rattle.fixprog.proofs.NoFaults.{none_front, none_behind, not_if, no_if, short_by, light}
 
 operation_fine : (o : Operation) (b : Before) (i : ℕ) → operation_faults b i o ≡ [] → IsShort o
 operation_fine (copy a) b i h = tt

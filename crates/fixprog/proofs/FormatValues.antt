@@ -8,7 +8,8 @@ use Rattle.std.specs.Prelude.{neg_ℤ}
 use Rattle.std.proofs.lemmas.Int.{ints, to_z-of_z}
 use Rattle.std.proofs.lemmas.Nat.{pow_pos}
 use Rattle.std.proofs.Math.Nat.{pow-le-pow_right, mod-eq_of_lt}
-use Rattle.fx_model.specs.Fraction.{neg_ℚ, mul-one, ◌*ℚ◌}
+use Rattle.fx_model.specs.Fraction.{neg_ℚ, ◌*ℚ◌}
+use Rattle.fx_model.proofs.Fraction.{mul-one}
 use Rattle.fx_model.specs.Powers.{scaled, one-whole, scaled-shift, scaled-zero}
 use Rattle.fx_model.specs.Grid.{signed, scaled-neg}
 use Rattle.fx_model.specs.Expression.{literal_value}

@@ -22,15 +22,16 @@ use Rattle.fixprog.specs.Formats.{format_of, is_format}
 use Rattle.fixprog.specs.Faults.{Fault, Before, is_among, is_literal, is_outside, is_crossed}
 use Rattle.fixprog.specs.Faults.{is_way}
 use Rattle.fixprog.specs.First.{fault, start_of}
-use Rattle.fixprog.specs.Standing.{Part, part_words, between, input_name, input_format, lower}
-use Rattle.fixprog.specs.Standing.{lower_marked, upper, upper_marked, step_format, step_way}
-use Rattle.fixprog.specs.Standing.{step_operand, step_negated, step_second, step_places}
-use Rattle.fixprog.specs.Standing.{output_name, Head, bound_of, name_in, literal_in, format_in}
-use Rattle.fixprog.specs.Standing.{way_in, operand_in, digits_in, joint_words, shift_words}
+use Rattle.fixprog.specs.Standing.{Part, between, input_name, input_format, lower, lower_marked}
+use Rattle.fixprog.specs.Standing.{upper, upper_marked, step_format, step_way, step_operand}
+use Rattle.fixprog.specs.Standing.{step_negated, step_second, step_places, output_name, Head}
+use Rattle.fixprog.specs.Standing.{bound_of, name_in, literal_in, format_in, way_in, operand_in}
+use Rattle.fixprog.specs.Standing.{digits_in}
+use Rattle.fixprog.proofs.Standing.{part_words, joint_words, shift_words}
 use Rattle.fixprog.specs.Finding.{new_name_finds, known_name_finds, output_finds, literal_finds}
 use Rattle.fixprog.specs.Finding.{format_finds, bound_finds, lower_finds, upper_finds, way_finds}
-use Rattle.fixprog.specs.Finding.{operand_finds, places_finds, finds, bound_at, at_byte, found, due}
-use Rattle.fixprog.specs.Finding.{bound_due, placed, at_word}
+use Rattle.fixprog.specs.Finding.{operand_finds, places_finds, finds, bound_at, at_byte, found}
+use Rattle.fixprog.proofs.Finding.{due, bound_due, placed, at_word}
 
 -- ---- made in two ways
 

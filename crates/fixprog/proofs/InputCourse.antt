@@ -7,7 +7,7 @@ use Rattle.fixprog.specs.Words.{Name}
 use Rattle.fixprog.specs.Grammar.{Input, input_words, Step, input}
 use Rattle.fixprog.specs.Faults.{Fault, Before, after, input_faults}
 use Rattle.fixprog.specs.Standing.{Part, between, bound_of, Standing}
-use Rattle.fixprog.specs.Finding.{Course, course_of}
+use Rattle.fixprog.proofs.Finding.{Course, course_of}
 
 -- where the reading stands
 abbrev pub standing : List Input → List Step → List Name → Before → Part → Standing

@@ -26,3 +26,7 @@ pub mod Alone
 pub mod AloneWords
 pub mod Sound
 pub mod Shortness
+pub mod Narrow
+pub mod NoFaults
+pub mod Standing
+pub mod Finding

@@ -7,7 +7,7 @@ use Rattle.fixprog.specs.Grammar.{words_from, Program, outputs, program_words}
 use Rattle.fixprog.specs.Faults.{Fault, Before, after, statement_faults, faults_from}
 use Rattle.fixprog.specs.Faults.{program_faults}
 use Rattle.fixprog.specs.Standing.{between}
-use Rattle.fixprog.specs.Finding.{Course, course_of, nothing_judged}
+use Rattle.fixprog.proofs.Finding.{Course, course_of, nothing_judged}
 use Rattle.fixprog.proofs.Courses.{course_of-append}
 use Rattle.fixprog.proofs.InputCourse.{at, input_course}
 use Rattle.fixprog.proofs.StepCourse.{step_course, output_course}

@@ -14,8 +14,9 @@ use Rattle.fixprog.specs.Words.{Word, colon}
 use Rattle.fixprog.specs.Lex.{Lexes, token_word, words_of}
 use Rattle.fixprog.specs.First.{Reading, fault, start_of, is_before, IsReadable, IsFirstFault}
 use Rattle.fixprog.specs.Standing.{Standing, ended, is_whole, stands_after, nothing_read}
-use Rattle.fixprog.specs.Finding.{finds, at_word, placed, earlier, first_from, found, due}
-use Rattle.fixprog.specs.Finding.{begin_after, Course, course_after, course_of, nothing_judged}
+use Rattle.fixprog.specs.Finding.{finds, earlier, first_from, found}
+use Rattle.fixprog.proofs.Finding.{at_word, placed, due, begin_after, Course, course_after}
+use Rattle.fixprog.proofs.Finding.{course_of, nothing_judged}
 use Rattle.fixprog.specs.Views.{standing_of, program_with, answer_of}
 use Rattle.fixprog.specs.Read.{IsTaken, IsRead}
 use Rattle.fixprog.proofs.Found.{due_is, placed_found}

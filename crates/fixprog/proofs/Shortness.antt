@@ -10,7 +10,7 @@ use Rattle.std.proofs.lemmas.List.{drop-drop, length-map}
 use Rattle.std.proofs.lemmas.Fmt.{length-decimal-le_wide}
 use Rattle.script_words.specs.declared.class.Symbol.TheVariants as s
 use Rattle.script_words.specs.Lex.{blank_len}
-use Rattle.script_cases.specs.Lists.{all_front, all_behind}
+use Rattle.script_cases.proofs.Lists.{all_front, all_behind}
 use Rattle.fixprog.specs.declared.format.Format.{Format}
 use Rattle.fixprog.specs.declared.program.Mark.{Mark}
 use Rattle.fixprog.specs.declared.program.Mark.TheVariants as mark
@@ -36,7 +36,7 @@ use Rattle.fixprog.specs.Answer.{ScriptsAreShort}
 use Rattle.fixprog.proofs.ProgramCourse.{words-append}
 use Rattle.fixprog.proofs.Faultless.{fine, all_fine, few}
 use Rattle.fixprog.proofs.Sound.{spelled_faultless}
-use Rattle.fixprog.specs.Narrow.{IsNarrow, narrow, power_below}
+use Rattle.fixprog.proofs.Narrow.{IsNarrow, narrow, power_below}
 
 -- ---- texts of words
 

@@ -13,7 +13,7 @@ use Rattle.fixprog.specs.First.{Reading, IsReadingOf, HasFault, out_of_place, no
 use Rattle.fixprog.specs.First.{judged, IsReadable, IsFirstFault, too_long, not_text, first}
 use Rattle.fixprog.specs.First.{faultless, Spells, SpellsAll, SpelledAreFaultless}
 use Rattle.fixprog.specs.Standing.{is_whole}
-use Rattle.fixprog.specs.Finding.{Course, course_of, nothing_judged}
+use Rattle.fixprog.proofs.Finding.{Course, course_of, nothing_judged}
 use Rattle.fixprog.specs.Answer.{ScriptsAreText}
 use Rattle.fixprog.proofs.LexedOnce.{lexed_once}
 use Rattle.fixprog.proofs.Courses.{course_goes, nothing_is_course}

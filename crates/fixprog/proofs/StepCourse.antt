@@ -23,8 +23,10 @@ use Rattle.fixprog.specs.Faults.{operand_faults, shift_faults}
 use Rattle.fixprog.specs.Standing.{Part, between, step_way, step_equal, step_operand, step_negated}
 use Rattle.fixprog.specs.Standing.{step_operator, step_second, step_places, step_end, Head, Begun}
 use Rattle.fixprog.specs.Standing.{headed, directed, stepped, joined, shifted, digits_if, digits_of}
-use Rattle.fixprog.specs.Standing.{reserved_if, is_semicolon, way_in, joint_words, shift_words}
-use Rattle.fixprog.specs.Finding.{Course, course_of, way_finds, at_word}
+use Rattle.fixprog.specs.Standing.{reserved_if, is_semicolon, way_in}
+use Rattle.fixprog.proofs.Standing.{joint_words, shift_words}
+use Rattle.fixprog.proofs.Finding.{Course, course_of, at_word}
+use Rattle.fixprog.specs.Finding.{way_finds}
 use Rattle.fixprog.proofs.Courses.{course_of-append}
 use Rattle.fixprog.proofs.InputCourse.{at}
 

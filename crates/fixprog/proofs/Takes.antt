@@ -26,10 +26,11 @@ use Rattle.fixprog.specs.Standing.{input_colon, input_format, input_open, lower,
 use Rattle.fixprog.specs.Standing.{comma, upper, upper_marked, input_close, input_end, step_colon}
 use Rattle.fixprog.specs.Standing.{step_format, step_way, step_equal, step_operand, step_negated}
 use Rattle.fixprog.specs.Standing.{step_operator, step_second, step_places, step_end, output_name}
-use Rattle.fixprog.specs.Standing.{output_end, joint_words, shift_words, head_words, range_words}
-use Rattle.fixprog.specs.Standing.{begun_words, part_words, some_if, headed, directed, bound_of}
-use Rattle.fixprog.specs.Standing.{ranged, stepped, joined, shifted, Opening, begun_otherwise}
-use Rattle.fixprog.specs.Standing.{lower_next, upper_next, operand_next, operator_next, next_part}
+use Rattle.fixprog.specs.Standing.{output_end, some_if, headed, directed, bound_of, ranged, stepped}
+use Rattle.fixprog.specs.Standing.{joined, shifted, Opening, begun_otherwise, lower_next}
+use Rattle.fixprog.specs.Standing.{upper_next, operand_next, operator_next, next_part}
+use Rattle.fixprog.proofs.Standing.{joint_words, shift_words, head_words, range_words, begun_words}
+use Rattle.fixprog.proofs.Standing.{part_words}
 use Rattle.fixprog.proofs.Common.{one_value}
 
 -- ---- which words there are where something is seen

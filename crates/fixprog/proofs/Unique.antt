@@ -5,7 +5,7 @@ use Rattle.std.proofs.Common.{ap, ◌∙◌, subst, arith, if◌then◌else◌}
 use Rattle.std.proofs.lemmas.Str.{utf8_valid_len-IsValidUpTo}
 use Rattle.std.proofs.lemmas.Bool.{cases_lt}
 use Rattle.std.proofs.Math.Seq.{take-add}
-use Rattle.script_words.specs.Utf8.{no_both}
+use Rattle.script_words.proofs.Utf8.{no_both}
 use Rattle.fixprog.specs.declared.fault.ProgKind.{ProgKind}
 use Rattle.fixprog.specs.declared.fault.ProgKind.TheVariants as kind
 use Rattle.fixprog.specs.declared.fault.ProgFault.{ProgFault}
@@ -15,7 +15,7 @@ use Rattle.fixprog.specs.Lex.{words_of}
 use Rattle.fixprog.specs.First.{BeginsProgram, Reading, IsReadingOf, fault, HasFault, number}
 use Rattle.fixprog.specs.First.{is_before, too_long, not_text, first, faultless, FirstsAreUnique}
 use Rattle.fixprog.specs.First.{SpellsOnce}
-use Rattle.fixprog.specs.Finding.{Course, course_of, nothing_judged}
+use Rattle.fixprog.proofs.Finding.{Course, course_of, nothing_judged}
 use Rattle.fixprog.proofs.LexedOnce.{lexed_once}
 use Rattle.fixprog.proofs.Courses.{course_goes, course_of-append, none_stays, nothing_is_course}
 use Rattle.fixprog.proofs.Completed.{begins_some}

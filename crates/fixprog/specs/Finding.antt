@@ -1,27 +1,22 @@
 -- The faults that a word tells where it is taken.
 use Rattle.std.specs.Prelude.{ℕ, ◌+◌, ◌||◌, not, nat_lt, List, [], ◌∷◌, ◌++◌, length, Option, Some}
 use Rattle.std.specs.Prelude.{None, Bool, true, false, if◌then◌else◌}
-use Rattle.std.specs.Option.{option_map}
 use Rattle.std.specs.Str.Parse.{digits_value}
 use Rattle.fixprog.specs.declared.fault.ProgKind.{ProgKind}
 use Rattle.fixprog.specs.declared.fault.ProgKind.TheVariants as kind
 use Rattle.fixprog.specs.declared.fault.ProgFault.{ProgFault}
 use Rattle.fixprog.specs.declared.program.Mark.{Mark}
 use Rattle.fixprog.specs.declared.program.Mark.TheVariants as mark
-use Rattle.fixprog.specs.declared.token.ProgramToken.{ProgramToken}
 use Rattle.fixprog.specs.Words.{Name, Word}
-use Rattle.fixprog.specs.Grammar.{Operand, named, given, Digits, Bound, mark_words, bound_words}
-use Rattle.fixprog.specs.Grammar.{Way, Statement, statement_words}
+use Rattle.fixprog.specs.Grammar.{Operand, named, given, Digits, Bound, Way}
 use Rattle.fixprog.specs.Formats.{format_of, is_format}
-use Rattle.fixprog.specs.Faults.{Fault, Before, is_among, is_literal, is_outside, is_crossed}
-use Rattle.fixprog.specs.Faults.{is_way}
-use Rattle.fixprog.specs.First.{fault, start_of, is_before}
-use Rattle.fixprog.specs.Standing.{Part, part_words, between, input_name, input_format, lower}
-use Rattle.fixprog.specs.Standing.{lower_marked, upper, upper_marked, step_format, step_way}
-use Rattle.fixprog.specs.Standing.{step_operand, step_negated, step_second, step_places}
-use Rattle.fixprog.specs.Standing.{output_name, Head, bound_of, name_in, literal_in, format_in}
-use Rattle.fixprog.specs.Standing.{way_in, operand_in, digits_in, ended, Standing, nothing_read}
-use Rattle.fixprog.specs.Standing.{stands_after}
+use Rattle.fixprog.specs.Faults.{Before, is_among, is_literal, is_outside, is_crossed, is_way}
+use Rattle.fixprog.specs.First.{fault, is_before}
+use Rattle.fixprog.specs.Standing.{Part, between, input_name, input_format, lower, lower_marked}
+use Rattle.fixprog.specs.Standing.{upper, upper_marked, step_format, step_way, step_operand}
+use Rattle.fixprog.specs.Standing.{step_negated, step_second, step_places, output_name, Head}
+use Rattle.fixprog.specs.Standing.{bound_of, name_in, literal_in, format_in, way_in, operand_in}
+use Rattle.fixprog.specs.Standing.{digits_in}
 
 -- A fault is made of its kind, and of whether it is one of the first word of a bound, or of the
 -- word itself.
@@ -118,8 +113,6 @@ module _ {A : Type 0} (make : Bool → ProgKind → A) where
   finds b output_name w = output_finds b (name_in w)
   finds b p w = []
 
--- ---- in bytes
-
 -- where the bound that the word is in begins, if the word before is its sign
 abbrev pub bound_at : Part → ℕ → ℕ → ℕ
 bound_at (lower_marked h m) last at = last
@@ -144,78 +137,3 @@ earlier (Some first) f = if is_before f first then Some f else Some first
 abbrev pub first_from : Option ProgFault → List ProgFault → Option ProgFault
 first_from o [] = o
 first_from o (f ∷ fs) = first_from (earlier o f) fs
-
--- ---- in words
-
--- the number of the word that is due, where the statement's first has the number i, as
--- `statement_faults` has it
-abbrev pub due : ℕ → Part → ℕ
-due i between = i
-due i input_name = i + 1
-due i (input_format n) = i + 3
-due i (lower h) = i + 5 + 0
-due i (lower_marked h m) = i + 5 + length (mark_words m)
-due i (upper h a) = i + 5 + length (bound_words a) + 1 + 0
-due i (upper_marked h a m) = i + 5 + length (bound_words a) + 1 + length (mark_words m)
-due i (step_format n) = i + 2
-due i (step_way h) = i + 3
-due i (step_operand b) = i + 5
-due i (step_negated b) = i + 5 + 1
-due i (step_second b a j) = i + 5 + 2
-due i (step_places b a k) = i + 5 + 2
-due i output_name = i + 1
-due i p = i + length (part_words p)
-
--- The number of the first word of the bound that the due word is in; outside of bounds, the due
--- word's own.
-abbrev pub bound_due : ℕ → Part → ℕ
-bound_due i (lower h) = i + 5
-bound_due i (lower_marked h m) = i + 5
-bound_due i (upper h a) = i + 5 + length (bound_words a) + 1
-bound_due i (upper_marked h a m) = i + 5 + length (bound_words a) + 1
-bound_due i p = due i p
-
--- A fault by the byte at which its word's token begins, in place of the word's number.
-abbrev pub placed : List ProgramToken → Fault → ProgFault
-placed tokens f = fault f.kind (start_of tokens f.word)
-
--- A fault of the due word, or, where `e` holds, of its bound's first word; it is the due word that
--- tells it.
-abbrev pub at_word : ℕ → Part → Bool → ProgKind → Fault
-at_word i p e k = record { kind = k; word = if e then bound_due i p else due i p; told = due i p }
-
--- A standing, the number of the first word of its statement, and the faults so far.
-pub record Course : Type 0 where
-  pub stands : Standing
-  pub begin : ℕ
-  pub faults : List Fault
-
--- The number of the first word of the statement under way, after one that began at `i` has ended or
--- hasn't.
-abbrev pub begin_after : ℕ → Option Statement → ℕ
-begin_after i None = i
-begin_after i (Some x) = i + length (statement_words x)
-
--- The course with one more word and the faults that it tells; none where the word has no place
--- there.
-abbrev pub course_after : Course → Word → Option Course
-course_after c w =
-    option_map (λ s. record {
-      stands = s;
-      begin = begin_after c.begin (ended c.stands.part w);
-      faults = c.faults ++ finds (at_word c.begin c.stands.part) c.stands.before c.stands.part w;
-    }) (stands_after c.stands w)
-
--- The course with one more word; where an earlier word had no place, there is none anymore.
-abbrev pub goes_on : Option Course → Word → Option Course
-goes_on None w = None
-goes_on (Some c) w = course_after c w
-
--- the course of some words
-abbrev pub course_of : Option Course → List Word → Option Course
-course_of o [] = o
-course_of o (w ∷ ws) = course_of (goes_on o w) ws
-
--- The course before the first word, without a statement and without a fault.
-abbrev pub nothing_judged : Course
-nothing_judged = record { stands = nothing_read; begin = 0; faults = [] }

@@ -2,9 +2,7 @@ pub mod Words
 pub mod Lex
 pub mod Grammar
 pub mod Formats
-pub mod Narrow
 pub mod Faults
-pub mod NoFaults
 pub mod First
 pub mod Standing
 pub mod Finding

@@ -15,14 +15,11 @@ use Rattle.fixprog.specs.declared.program.Joint.TheVariants as joint
 use Rattle.fixprog.specs.declared.program.Shift.{Shift}
 use Rattle.fixprog.specs.declared.program.Shift.TheVariants as shift
 use Rattle.fixprog.specs.Words.{Name, Word, name, literal, format, sign, colon, right, left, out}
-use Rattle.fixprog.specs.Grammar.{Operand, named, given, operand_words, Digits, Operation}
-use Rattle.fixprog.specs.Grammar.{operation_words, mark_words, bound_words, way_words, copy}
-use Rattle.fixprog.specs.Grammar.{negation, sum, difference, product, shift_right, shift_left}
-use Rattle.fixprog.specs.Grammar.{Bound, Input, Way, called, reserved, reserved_out, Step}
-use Rattle.fixprog.specs.Grammar.{Statement, input, step, output}
+use Rattle.fixprog.specs.Grammar.{Operand, named, given, Digits, Operation, copy, negation, sum}
+use Rattle.fixprog.specs.Grammar.{difference, product, shift_right, shift_left, Bound, Input, Way}
+use Rattle.fixprog.specs.Grammar.{called, reserved, reserved_out, Step, Statement, input, step}
+use Rattle.fixprog.specs.Grammar.{output}
 use Rattle.fixprog.specs.Faults.{Before, after}
-
--- ---- what a word can be
 
 -- The name that a word is, or none where it is another kind of word.
 abbrev pub name_in : Word → Option Name
@@ -137,8 +134,6 @@ abbrev pub is_minus : Word → Bool
 is_minus (sign s.Minus) = true
 is_minus w = false
 
--- ---- a statement that isn't ended, by what is due next
-
 -- `name : format`
 pub record Head : Type 0 where
   pub name : Name
@@ -177,61 +172,6 @@ pub data Part : Type 0 where
   step_end : Step → Part
   output_name : Part
   output_end : Name → Part
-
--- How a joint is spelled in a program: always one sign.
-abbrev pub joint_words : Joint → List Word
-joint_words joint.Plus = sign s.Plus ∷ []
-joint_words joint.Minus = sign s.Minus ∷ []
-joint_words joint.Times = sign s.Star ∷ []
-
--- How a shift is spelled in a program: always one word, `>>` or `<<`.
-abbrev pub shift_words : Shift → List Word
-shift_words shift.Right = right ∷ []
-shift_words shift.Left = left ∷ []
-
--- the words that a statement begins with
-abbrev pub head_words : Name → List ℕ → List Word → List Word
-head_words n f more = name n ∷ (colon ∷ (format f ∷ more))
-
--- The words of an input up to the `[` of its range, with `more` behind them.
-abbrev pub range_words : Head → List Word → List Word
-range_words h more = sign s.In ∷ head_words h.name h.format (sign s.OpenBracket ∷ more)
-
--- The words of a step up to its direction, with `more` behind them.
-abbrev pub begun_words : Begun → List Word → List Word
-begun_words b more = head_words b.name b.format (way_words b.way ++ more)
-
--- its words so far
-abbrev pub part_words : Part → List Word
-part_words between = []
-part_words input_name = sign s.In ∷ []
-part_words (input_colon n) = sign s.In ∷ (name n ∷ [])
-part_words (input_format n) = sign s.In ∷ (name n ∷ (colon ∷ []))
-part_words (input_open h) = sign s.In ∷ head_words h.name h.format []
-part_words (lower h) = range_words h []
-part_words (lower_marked h m) = range_words h (mark_words m)
-part_words (comma h a) = range_words h (bound_words a)
-part_words (upper h a) = range_words h (bound_words a ++ (sign s.Comma ∷ []))
-part_words (upper_marked h a m) = range_words h (bound_words a ++ (sign s.Comma ∷ mark_words m))
-part_words (input_close x) = range_words (record { name = x.name; format = x.format })
-    (bound_words x.lower ++ (sign s.Comma ∷ bound_words x.upper))
-part_words (input_end x) = range_words (record { name = x.name; format = x.format })
-    (bound_words x.lower ++ (sign s.Comma ∷ (bound_words x.upper ++ (sign s.CloseBracket ∷ []))))
-part_words (step_colon n) = name n ∷ []
-part_words (step_format n) = name n ∷ (colon ∷ [])
-part_words (step_way h) = head_words h.name h.format []
-part_words (step_equal b) = begun_words b []
-part_words (step_operand b) = begun_words b (sign s.Equal ∷ [])
-part_words (step_negated b) = begun_words b (sign s.Equal ∷ (sign s.Minus ∷ []))
-part_words (step_operator b a) = begun_words b (sign s.Equal ∷ operand_words a)
-part_words (step_second b a j) = begun_words b (sign s.Equal ∷ (operand_words a ++ joint_words j))
-part_words (step_places b a k) = begun_words b (sign s.Equal ∷ (operand_words a ++ shift_words k))
-part_words (step_end x) = begun_words (record { name = x.name; format = x.format; way = x.way })
-    (sign s.Equal ∷ operation_words x.operation)
-part_words output_name = out ∷ []
-part_words (output_end text) = out ∷ (name text ∷ [])
-
--- ---- the part behind a word
 
 -- The part behind a word that is the one due, and none behind any other.
 abbrev pub some_if : Bool → Part → Option Part
@@ -351,8 +291,6 @@ ending p = None
 -- The statement that a word ends, which only a `;` does, and only behind a part that may end there.
 abbrev pub ended : Part → Word → Option Statement
 ended p w = if is_semicolon w then ending p else None
-
--- ---- the whole statements, and the part
 
 -- The inputs, steps and outputs that are read whole, the names and weight they leave behind, and
 -- the part that isn't ended.

@@ -1,1 +1,3 @@
 pub mod LastFile
+pub mod OutsideLaws
+pub mod OnlyReads

@@ -2,7 +2,6 @@
 -- 2^64 - 1.
 use Rattle.std.specs.Prelude.{◌≡◌, ◌<◌, ◌≤◌, ◌+◌, ◌-◌, ◌^◌, ℕ, List, [], length, take, drop, min, ⊤}
 use Rattle.std.specs.Prelude.{Option, Some, None, Result, Ok, Err, MatchResult, OnErr}
-use Rattle.std.proofs.Common.{arith}
 
 -- a count after one more; it stands still at 2^64 - 1
 abbrev pub next_count : ℕ → ℕ
@@ -38,6 +37,3 @@ ReadsFrom (Some all) at result buf = MatchResult result (λ n. IsPiece all at n 
 abbrev pub Empties : Option (List ℕ) → Option (List ℕ) → Type 0
 Empties None new = ⊤
 Empties (Some old) new = new ≡ Some []
-
-pub rose_later : (before middle now : ℕ) → before ≤ middle → Rose middle now → Rose before now
-rose_later before middle now l r = omega (arith, l, r)

@@ -6,7 +6,7 @@ pub mod SumEnds
 pub mod Isotone
 pub mod Ends
 pub mod Unique
-pub use Rattle.fx_model.specs.Enclosure.Sets.{Range, from_ends, IsFrom, IsUpTo, Lies, Set}
+pub use Rattle.fx_model.specs.Enclosure.Sets.{Range, from_ends, IsFrom, IsUpTo, Lies}
 pub use Rattle.fx_model.specs.Enclosure.Sets.{IsInfimum}
 pub use Rattle.fx_model.specs.Enclosure.Sets.{IsSupremum, IsEnclosure, Negations, Sizes, Squares}
 pub use Rattle.fx_model.specs.Enclosure.Sets.{Sums, Differences, Products, Quotients, MultiplesIn}
@@ -15,8 +15,7 @@ pub use Rattle.fx_model.specs.Enclosure.Sets.{IsSum, IsDifference, IsProduct, Is
 pub use Rattle.fx_model.specs.Enclosure.Attained.{infimum_at, supremum_at, in_enclosure}
 pub use Rattle.fx_model.specs.Enclosure.SumEnds.{sum_low, sum_low_infinite, sum_high, LowSum}
 pub use Rattle.fx_model.specs.Enclosure.SumEnds.{HighSum, sum_high_infinite, sum_is}
-pub use Rattle.fx_model.specs.Enclosure.Isotone.{BoundLe, Within, enclosure_isotone, within_in}
-pub use Rattle.fx_model.specs.Enclosure.Isotone.{sum_isotone}
+pub use Rattle.fx_model.specs.Enclosure.Isotone.{BoundLe, Within, within_in}
 pub use Rattle.fx_model.specs.Enclosure.Ends.{IsOrdered, IsOrdered-prop, member_of, ordered_by}
 pub use Rattle.fx_model.specs.Enclosure.Members.{from-le, up_to-le, lower_up_to, higher_from}
 pub use Rattle.fx_model.specs.Enclosure.Members.{end_up_to, end_from, low_lies, high_lies, deep}
@@ -24,5 +23,5 @@ pub use Rattle.fx_model.specs.Enclosure.Members.{far, mirror, from_neg, up_to_ne
 pub use Rattle.fx_model.specs.Enclosure.Members.{lies_mirror, lies_mirrored, mirror_ordered}
 pub use Rattle.fx_model.specs.Enclosure.Members.{enclosure_ordered, infimum_same, supremum_same}
 pub use Rattle.fx_model.specs.Enclosure.Members.{enclosure_same}
-pub use Rattle.fx_model.specs.Enclosure.Unique.{enclosure_unique, finite_or, product_unique}
+pub use Rattle.fx_model.specs.Enclosure.Unique.{finite_or}
 pub use Rattle.fx_model.specs.Enclosure.Unique.{product_holds}

@@ -2,7 +2,7 @@
 pub mod Examples
 use Rattle.std.specs.Prelude.{◌≡◌, ℕ, ℤ, pos, negsuc, ◌^◌, ◌+◌, ◌<◌, if◌then◌else◌, Option, Some}
 use Rattle.std.specs.Prelude.{None, List, [], ◌∷◌, ◌++◌, slice_index_or, length, ⊤, refl}
-use Rattle.std.proofs.Common.{zero, suc, ap, sym, ◌∙◌, subst, arith, length-append, ◌≤◌}
+use Rattle.std.proofs.Common.{zero, suc, ap, sym, ◌∙◌, arith, length-append}
 use Rattle.std.proofs.lemmas.List.{get_or_append_left}
 use Rattle.std.proofs.Math.Seq.{get_or-append_seam}
 use Rattle.fx_model.specs.Fraction.{Fraction, ◌+ℚ◌, ◌-ℚ◌, ◌*ℚ◌, ◌/ℚ◌, inverse_ℚ, neg_ℚ, abs_ℚ}
@@ -125,7 +125,7 @@ kept a done (n ∷ ns) i h =
     let m : i < length (done ++ (v ∷ [])) = omega (arith, longer done v) in
     kept a (done ++ (v ∷ [])) ns i m ∙ at_front done (v ∷ []) i h
 
-step : (a : Assignment) (done : List (Option Fraction)) (ns : List Node) (i j : ℕ) (d : Node)
+pub step : (a : Assignment) (done : List (Option Fraction)) (ns : List Node) (i j : ℕ) (d : Node)
     → j ≡ length done + i → i < length ns
     → ((k l : ℕ) → l ≡ length done + k → k < length ns → ChildrenBelow l (slice_index_or ns k d))
     → at_value (values_after a done ns) j
@@ -148,28 +148,3 @@ step a done (n ∷ ns) (suc i) j d e h o =
     let v : Option Fraction = node_value a (λ x. slice_index_or done x.0 None) n in
     step a (done ++ (v ∷ [])) ns i j d (omega (arith, longer done v)) (omega arith)
     (λ k l f m. o (suc k) l (omega (arith, longer done v)) (omega arith))
-
-zero_plus : (k l : ℕ) → l ≡ 0 + k → k ≡ l
-zero_plus k l e = omega arith
-
--- The value of a node is made of the values of its parts.
-pub value_step : (nodes : List Node) (a : Assignment) (x : ExprId) (d : Node)
-    → IsOrdered nodes → x.0 < length nodes
-    → value nodes a x ≡ node_value a (value nodes a) (slice_index_or nodes x.0 d)
-value_step nodes a x d o h = step a [] nodes x.0 x.0 d (omega arith) h
-    (λ k l e m. subst (λ l. ChildrenBelow l (slice_index_or nodes k d)) (zero_plus k l e) (o k d m))
-
-pub children_later : (j k : ℕ) (n : Node) → j ≤ k → ChildrenBelow j n → ChildrenBelow k n
-children_later j k (Var m) l c = tt
-children_later j k (Lit m) l c = tt
-children_later j k (Neg x) l c = let a : x.0 < j = c in omega arith
-children_later j k (Add x y) l c = let a : x.0 < j = c.0 in let b : y.0 < j = c.1 in
-    (omega arith, omega arith)
-children_later j k (Sub x y) l c = let a : x.0 < j = c.0 in let b : y.0 < j = c.1 in
-    (omega arith, omega arith)
-children_later j k (Mul x y) l c = let a : x.0 < j = c.0 in let b : y.0 < j = c.1 in
-    (omega arith, omega arith)
-children_later j k (Div x y) l c = let a : x.0 < j = c.0 in let b : y.0 < j = c.1 in
-    (omega arith, omega arith)
-children_later j k (Abs x) l c = let a : x.0 < j = c in omega arith
-children_later j k (Round r x) l c = let a : x.0 < j = c in omega arith

@@ -13,18 +13,16 @@ pub use Rattle.fx_model.specs.Fraction.Core.Ring.{neg-add, neg-neg}
 pub use Rattle.fx_model.specs.Fraction.Core.Order.{le_in, le_out, Le-prop, le_refl, le_trans}
 pub use Rattle.fx_model.specs.Fraction.Core.Order.{le_antisymm, le_total, add-le, mul-le, lt_by}
 pub use Rattle.fx_model.specs.Fraction.Core.Order.{lt_not, lt_le, le_lt_trans, lt_le_trans}
-pub use Rattle.fx_model.specs.Fraction.Core.Order.{le_or_lt, mul-le_cancel, mul-lt_cancel}
-pub use Rattle.fx_model.specs.Fraction.Core.Order.{mul_cancel, neg-le, add-le-add, Lt-prop}
+pub use Rattle.fx_model.specs.Fraction.Core.Order.{le_or_lt, mul-le_cancel}
+pub use Rattle.fx_model.specs.Fraction.Core.Order.{neg-le, add-le-add, Lt-prop}
 pub use Rattle.fx_model.specs.Fraction.Core.Order.{minus_one, under, plus_one, over}
-pub use Rattle.fx_model.specs.Fraction.Core.Laws.{add-zero, add-sub, middle_sums, left_swap}
-pub use Rattle.fx_model.specs.Fraction.Core.Laws.{middle_products, mul-one, mul-zero, add-mul}
+pub use Rattle.fx_model.specs.Fraction.Core.Laws.{add-sub}
 pub use Rattle.fx_model.specs.Fraction.Core.Laws.{mul-neg, add-le_out, add-lt, mul-lt, times-le}
-pub use Rattle.fx_model.specs.Fraction.Core.Laws.{times-lt, neg-le_out, neg-lt, neg_zero, neg_up}
-pub use Rattle.fx_model.specs.Fraction.Core.Laws.{neg_down, sub-add}
+pub use Rattle.fx_model.specs.Fraction.Core.Laws.{times-lt, neg-le_out, neg_zero, neg_up}
+pub use Rattle.fx_model.specs.Fraction.Core.Laws.{neg_down}
 pub use Rattle.fx_model.specs.Fraction.Core.Floor.{floor_ratio, FloorRatio, floor_ℚ, floor_law}
 pub use Rattle.fx_model.specs.Fraction.Core.Floor.{floor-mk}
 pub use Rattle.fx_model.specs.Fraction.Core.Inverse.{abs_ℚ, is_zero_ℚ, square_ratio}
 pub use Rattle.fx_model.specs.Fraction.Core.Inverse.{square_positive, inverse_ratio, inverse_ℚ}
 pub use Rattle.fx_model.specs.Fraction.Core.Inverse.{◌/ℚ◌, mul-inverse, inverse-mk, abs-from}
 pub use Rattle.fx_model.specs.Fraction.Core.Inverse.{abs-below, is_zero-zero, is_zero_out}
-pub use Rattle.fx_model.specs.Fraction.Core.Inverse.{is_zero_not, div-mul}

@@ -10,7 +10,7 @@ use Rattle.fx_model.specs.Fraction.{Ratio, Same, Fraction, ◌+ℚ◌, ◌*ℚ�
 use Rattle.fx_model.specs.Fraction.{zero_ℚ, one_ℚ, le_in, le_out, add_ratio, mul_ratio, neg_ratio}
 use Rattle.fx_model.specs.Fraction.{add-mk, mul-mk, neg-mk, ◌<ℚ◌, lt_by, lt_not, lt_le, mul_comm}
 use Rattle.fx_model.specs.Fraction.{mul_assoc, mul-le, mul-le_cancel, zero-mul, by_ratio, Le-prop}
-use Rattle.fx_model.specs.Fraction.{Lt-prop, le_trans, floor_ℚ, floor_law, add-mul, le_refl}
+use Rattle.fx_model.specs.Fraction.{Lt-prop, le_trans, floor_ℚ, floor_law, le_refl}
 
 -- The whole number z.
 pub whole : ℤ → Fraction
@@ -178,26 +178,7 @@ floor_unique x z h k =
     (le_trans (whole (floor_ℚ x +ℤ pos 1)) (whole z) x (whole-le (floor_ℚ x +ℤ pos 1) z l) h))) in
     omega (arith, ints)
 
--- ---- signs
-pub scaled_up : (m e : ℤ) → pos 0 ≤ℤ m → zero_ℚ ≤ℚ scaled m e
-scaled_up m e h = subst (λ z. z ≤ℚ scaled m e) (scaled-zero e) (scaled-le (pos 0) m e h)
-
-pub scaled_down : (m e : ℤ) → m ≤ℤ pos 0 → scaled m e ≤ℚ zero_ℚ
-scaled_down m e h = subst (λ z. scaled m e ≤ℚ z) (scaled-zero e) (scaled-le m (pos 0) e h)
-
-pub scaled_up_out : (m e : ℤ) → zero_ℚ ≤ℚ scaled m e → pos 0 ≤ℤ m
-scaled_up_out m e h =
-    scaled-le_out (pos 0) m e (subst (λ z. z ≤ℚ scaled m e) (sym (scaled-zero e)) h)
-
-pub scaled_down_out : (m e : ℤ) → scaled m e ≤ℚ zero_ℚ → m ≤ℤ pos 0
-scaled_down_out m e h =
-    scaled-le_out m (pos 0) e (subst (λ z. scaled m e ≤ℚ z) (sym (scaled-zero e)) h)
-
 -- ---- sums and equal numbers
-pub scaled-add : (m n k : ℤ) → scaled m k +ℚ scaled n k ≡ scaled (m +ℤ n) k
-scaled-add m n k =
-    sym (add-mul (whole m) (whole n) (two_to k)) ∙ ap (λ y. y *ℚ two_to k) (sym (whole-add m n))
-
 pub scaled-same : (m n e : ℤ) → scaled m e ≡ scaled n e → m ≡ n
 scaled-same m n e p =
     let a : m ≤ℤ n = scaled-le_out m n e (subst (λ y. scaled m e ≤ℚ y) p (le_refl (scaled m e))) in

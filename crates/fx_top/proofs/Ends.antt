@@ -3,7 +3,7 @@ use Rattle.std.specs.Prelude.{◌≡◌, Option, Some, None}
 use Rattle.std.specs.Io.KnownBytes.{Keeps}
 use Rattle.std.proofs.Common.{inr, refl, sym, subst}
 use Rattle.command_line.specs.Usage.{usage_line}
-use Rattle.command_runs.specs.Ends.{IsPutBy, IsOnce, put_runs, starved_of, keeps_file, run_by}
+use Rattle.command_runs.proofs.Ends.{IsPutBy, IsOnce, put_runs, starved_of, keeps_file, run_by}
 use Rattle.command_runs.specs.Fates.{Left, IsUntouched, MayWrite}
 use Rattle.command_runs.specs.Fates.Left.{Kept}
 use Rattle.command_runs.specs.Runs.{Bytes, Run, IsKept}

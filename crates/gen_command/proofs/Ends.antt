@@ -1,12 +1,13 @@
 -- How a run of `gen` ends.
 use Rattle.std.proofs.Common.{ℕ, None, refl, sym}
-use Rattle.command_runs.specs.Ends.{IsPutBy, put_runs, run_by}
+use Rattle.command_runs.proofs.Ends.{IsPutBy, put_runs, run_by}
 use Rattle.command_runs.specs.Fates.{MayWrite, Runs}
 use Rattle.command_runs.specs.Fates.Left.{Kept}
 use Rattle.command_runs.specs.Runs.{Bytes, Run, IsKept}
 use Rattle.command_runs.specs.declared.status.Status.{Status}
 use Rattle.script_answers.specs.Answers.{MadePrints}
-use Rattle.script_answers.specs.Laws.{MadeAnswersAreOne, made_done}
+use Rattle.script_answers.specs.Laws.{MadeAnswersAreOne}
+use Rattle.script_answers.proofs.LawsLaws.{made_done}
 use Rattle.gen_command.specs.Command.{GenFate, IsGenRun}
 
 module _ (law : MadeAnswersAreOne) (n : ℕ) (r : Run) (kept : (name : Bytes) → IsKept r name) where

@@ -13,9 +13,9 @@ use Rattle.script_shape.specs.Tree.{Definition, names_operator, names_value}
 use Rattle.script_shape.specs.Roles.{Leaf, at, name_leaves, special_leaves, whole_leaves}
 use Rattle.script_shape.specs.Roles.{bound_leaves, operator_leaves, expr_leaves, range_leaves}
 use Rattle.script_shape.specs.Roles.{prop_leaves, how_leaves, definition_leaves}
-use Rattle.script_shape.specs.Inner.{EachRole, each_of_both, each_as, IsInner, name_roles}
-use Rattle.script_shape.specs.Inner.{special_roles, bound_roles, whole_inner, operator_roles}
-use Rattle.script_shape.specs.Inner.{expr_inner}
+use Rattle.script_shape.proofs.Inner.{EachRole, each_of_both, each_as, IsInner, name_roles}
+use Rattle.script_shape.proofs.Inner.{special_roles, bound_roles, whole_inner, operator_roles}
+use Rattle.script_shape.proofs.Inner.{expr_inner}
 use Rattle.goal_spans.specs.declared.span.Span.{Span}
 use Rattle.goal_spans.specs.declared.reader.Stage.{Stage}
 use Rattle.goal_spans.specs.declared.reader.Stage.TheVariants as stage

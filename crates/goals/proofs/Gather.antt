@@ -9,14 +9,15 @@ use Rattle.fx_model.specs.declared.Node.{Node}
 use Rattle.fx_model.specs.declared.ExprId.{ExprId}
 use Rattle.interval.specs.declared.interval.Interval.{Interval}
 use Rattle.interval.specs.Intervals.{range_of}
-use Rattle.interval.specs.Meets.{hull_of, lies-hull_left, lies-hull_right}
+use Rattle.interval.specs.Meets.{hull_of}
+use Rattle.interval.proofs.Meets.{lies-hull_left, lies-hull_right}
 use Rattle.facts.specs.declared.fact.Fact.{Fact}
 use Rattle.facts.specs.declared.fact.Fact.TheVariants as fact
 use Rattle.facts.specs.declared.fact.Slot.{Slot}
 use Rattle.facts.specs.declared.fact.Slot.TheVariants as slot
 use Rattle.facts.specs.Holds.{AreZero, IsRelated, Holds}
 use Rattle.facts.specs.Order.{slot_of}
-use Rattle.facts.specs.Held.{some-and}
+use Rattle.facts.proofs.Held.{some-and}
 use Rattle.goals.specs.Lies.{LiesAt, AreZeroAt, OfBoth}
 use Rattle.goals.specs.declared.line.Line.{Line}
 use Rattle.goals.specs.declared.line.Line.TheVariants as line

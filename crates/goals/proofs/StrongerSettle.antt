@@ -10,7 +10,7 @@ use Rattle.facts.specs.declared.fact.Fact.{Fact}
 use Rattle.facts.specs.declared.fact.Fact.TheVariants as fact
 use Rattle.facts.specs.declared.fact.Slot.TheVariants as slot
 use Rattle.facts.specs.Order.{slot_of, IsWithin, IsStronger}
-use Rattle.facts.specs.Laws.{IsWithin-trans}
+use Rattle.facts.proofs.Laws.{IsWithin-trans}
 use Rattle.goals.specs.declared.goal.Want.{Want}
 use Rattle.goals.specs.declared.goal.Want.TheVariants.{Ask, Inside}
 use Rattle.goals.specs.declared.goal.Goal.{Goal}

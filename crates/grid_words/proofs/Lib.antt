@@ -1,0 +1,4 @@
+pub mod AbsoluteValues
+pub mod Nearest
+pub mod Outward
+pub mod FractionLaws

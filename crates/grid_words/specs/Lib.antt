@@ -1,4 +1,3 @@
-pub mod AbsoluteValues
 pub mod Digits
 pub mod Nearest
 pub mod Outward
@@ -7,4 +6,3 @@ pub mod Signs
 pub mod Sizes
 pub mod Corners
 pub mod Products
-pub mod FractionLaws

@@ -3,14 +3,12 @@ use lib.Dec.{ltb}
 use Rattle.std.specs.Prelude.{◌≡◌, ℕ, ℤ, pos, negsuc, ◌≤ℤ◌, ◌<ℤ◌, ◌+◌, ◌<◌, ◌≤◌, Bool, true, false}
 use Rattle.std.specs.Prelude.{cond, refl}
 use Rattle.std.specs.Int.RustNames.{int_lt}
-use Rattle.std.proofs.Common.{arith, sym, ap, ◌∙◌, subst, inl, inr}
+use Rattle.std.proofs.Common.{arith, subst, inl, inr}
 use Rattle.std.proofs.lemmas.Bool.{ltb-true, ltb-false}
 use Rattle.std.proofs.lemmas.Int.{ints}
-use Rattle.fx_model.specs.Fraction.{Fraction, zero_ℚ, neg_ℚ, le_ℚ, le_refl, le_total, neg-neg}
-use Rattle.fx_model.specs.Fraction.{neg_up}
+use Rattle.fx_model.specs.Fraction.{Fraction, zero_ℚ, neg_ℚ, le_ℚ, le_total, neg-neg, neg_up}
 use Rattle.fx_model.specs.Powers.{scaled}
-use Rattle.fx_model.specs.Grid.{Bound, At, Above, IsOnGrid, IsDown, IsUp, neg_bound, IsDown-neg}
-use Rattle.fx_model.specs.Grid.{IsUp-neg, IsDown-unique, neg_bound-neg}
+use Rattle.fx_model.specs.Grid.{Bound, At, Above, IsDown, IsUp, neg_bound, IsDown-neg, IsUp-neg}
 use Rattle.fx_model.specs.Cut.{Cuts, Full, up_is_exact, up_top, next_grid, top, down_beyond}
 use Rattle.fx_model.specs.Cut.{up_beyond}
 use Rattle.fx_model.specs.Cut as cut
@@ -104,18 +102,3 @@ pub up_is : (x : Fraction) → IsUp x (up x)
 unfolding up
 up_is x = subst (λ y. IsUp y (neg_bound (down (neg_ℚ x)))) (neg-neg x)
     (IsUp-neg (neg_ℚ x) (down (neg_ℚ x)) (down_is (neg_ℚ x)))
-
--- ---- the only ones
-pub down_only : (x : Fraction) (b : Bound) → IsDown x b → b ≡ down x
-down_only x b d = IsDown-unique x b (down x) d (down_is x)
-
-pub up_only : (x : Fraction) (b : Bound) → IsUp x b → b ≡ up x
-up_only x b d = sym (neg_bound-neg b) ∙ ap neg_bound (IsDown-unique (neg_ℚ x) (neg_bound b)
-    (neg_bound (up x)) (IsDown-neg x b d) (IsDown-neg x (up x) (up_is x))) ∙ neg_bound-neg (up x)
-
--- ---- a grid number is its own rounding
-pub down_grid : (g : Fraction) → IsOnGrid g → down g ≡ At g
-down_grid g o = sym (down_only g (At g) (o, le_refl g, λ h p k. k))
-
-pub up_grid : (g : Fraction) → IsOnGrid g → up g ≡ At g
-up_grid g o = sym (up_only g (At g) (o, le_refl g, λ h p k. k))

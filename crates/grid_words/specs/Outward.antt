@@ -4,7 +4,7 @@ use Rattle.std.specs.Prelude.{◌≡◌}
 use Rattle.std.proofs.Common.{refl, sym, subst}
 use Rattle.fx_model.specs.Fraction.{Fraction, ◌-ℚ◌, ◌+ℚ◌, one_ℚ, le_trans, lt_not, minus_one}
 use Rattle.fx_model.specs.Fraction.{plus_one}
-use Rattle.fx_model.specs.Grid.{Bound, Below, At, Above, IsOnGrid}
+use Rattle.fx_model.specs.Grid.{Bound, Below, At, Above}
 use Rattle.fx_model.specs.Enclosure.{Range, IsFrom, IsUpTo, Lies, IsInfimum, IsSupremum}
 use Rattle.fx_model.specs.Enclosure.{IsEnclosure, IsOrdered, infimum_at, supremum_at, member_of}
 use Rattle.fx_model.specs.Enclosure.{low_lies, high_lies, deep, far, enclosure_same}
@@ -47,15 +47,6 @@ module _ (r : Range) (o : IsOrdered r.low r.high) where
   outward_is = record { low = low_is r.low refl; high = high_is r.high refl }
 
 -- ---- enclosures of sets
--- the finite ends of an enclosure are on the grid
-pub enclosure_low_grid : (S : Fraction → Type 0) (r : Range) (g : Fraction) → IsEnclosure S r
-    → r.low ≡ At g → IsOnGrid g
-enclosure_low_grid S r g e p = (subst (λ b. IsInfimum S b) p e.low).0
-
-pub enclosure_high_grid : (S : Fraction → Type 0) (r : Range) (g : Fraction) → IsEnclosure S r
-    → r.high ≡ At g → IsOnGrid g
-enclosure_high_grid S r g e p = (subst (λ b. IsSupremum S b) p e.high).0
-
 -- an interval that has just the members of a set, rounded outward
 pub outward_exact : (S : Fraction → Type 0) (r : Range)
     → IsOrdered r.low r.high → ((x : Fraction) → Lies r x → S x) → ((x : Fraction) → S x → Lies r x)

@@ -9,9 +9,9 @@ use Rattle.fx_model.specs.Enclosure.{BoundLe, infimum_at, member_of, mirror, lie
 use Rattle.fx_model.specs.Enclosure.{lies_mirrored, enclosure_ordered}
 use Rattle.grid_words.specs.Signs.{times_up, times_down, factor_down}
 use Rattle.grid_words.specs.Products.{closed}
-use Rattle.dyadic.specs.Extremes.{BoundLe-antisymm}
+use Rattle.dyadic.proofs.Extremes.{BoundLe-antisymm}
 use Rattle.interval.proofs.Inequalities.{down-le}
-use Rattle.interval.specs.Enclosures.{supremum_neg}
+use Rattle.interval.proofs.Enclosures.{supremum_neg}
 
 least_is : (e f g : Bound) → BoundLe f g → BoundLe e f → (e ≡ f) ⊎ (e ≡ g) → e ≡ f
 least_is e f g h s (inl p) = p

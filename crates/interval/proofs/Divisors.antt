@@ -10,7 +10,7 @@ use Rattle.fx_model.specs.Enclosure.{IsOrdered, infimum_at, member_of, mirror, l
 use Rattle.fx_model.specs.Enclosure.{lies_mirrored, enclosure_same, enclosure_ordered}
 use Rattle.grid_words.specs.Signs.{times_up, factor_down, inverse_up, inverse_le, inverse-neg}
 use Rattle.grid_words.specs.Products.{closed}
-use Rattle.interval.specs.Enclosures.{supremum_neg}
+use Rattle.interval.proofs.Enclosures.{supremum_neg}
 
 -- the divisor is above 0
 module _ (a b c d : Fraction) (i : a ≤ℚ b) (j : c ≤ℚ d) (p : zero_ℚ <ℚ c) where

@@ -6,3 +6,12 @@ pub mod Unique
 pub mod Sizes
 pub mod Divisors
 pub mod Shrunk
+pub mod Intervals
+pub mod Enclosures
+pub mod Meets
+pub mod Outward
+pub mod Results
+pub mod Written
+pub mod ShrunkLaws
+pub mod Monotone
+pub mod Members

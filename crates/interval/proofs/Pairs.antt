@@ -10,7 +10,7 @@ use Rattle.dyadic.specs.declared.number.End.{End}
 use Rattle.dyadic.specs.Ends.{bound_of}
 use Rattle.dyadic.specs.Made.{IsGridBound}
 use Rattle.interval.specs.Pairs.{AreApart, IsCommon, Union, IsHull}
-use Rattle.interval.specs.Enclosures.{interval_enclosure}
+use Rattle.interval.proofs.Enclosures.{interval_enclosure}
 
 -- an end is one of two, at or outside each
 abbrev IsOne : Bound → Bound → Bound → Type 0

@@ -14,7 +14,7 @@ use Rattle.fx_model.specs.Fraction.{Fraction, ◌≤ℚ◌, ◌<ℚ◌, neg_ℚ,
 use Rattle.fx_model.specs.Powers.{scaled, IsMultiple, scaled-le, scaled-lt, scaled-lt_out}
 use Rattle.fx_model.specs.Powers.{scaled-shift}
 use Rattle.fx_model.specs.Grid.{Bound, Below, At, Above, IsOnGrid, neg_bound, neg_over, neg_under}
-use Rattle.fx_model.specs.Grid.{multiple-neg}
+use Rattle.fx_model.proofs.Grid.{multiple-neg}
 use Rattle.interval.specs.Multiples.{IsMultipleDown, IsMultipleUp, IsEndDown, IsEndUp}
 
 -- ---- a shift to the right

@@ -12,7 +12,7 @@ use Rattle.fx_model.specs.Enclosure.{BoundLe, infimum_at, supremum_at, member_of
 use Rattle.fx_model.specs.Enclosure.{far, low_lies, high_lies, from_neg, up_to_neg, enclosure_same}
 use Rattle.fx_model.specs.Enclosure.{enclosure_ordered, from-le, up_to-le}
 use Rattle.grid_words.specs.Signs.{times_up, zero_one, abs_down}
-use Rattle.grid_words.specs.AbsoluteValues.{abs-square, abs-not_negative}
+use Rattle.grid_words.proofs.AbsoluteValues.{abs-square, abs-not_negative}
 use Rattle.interval.specs.Exact.{IsExact}
 use Rattle.interval.specs.Squares.{LowSquare, HighSquare}
 use Rattle.interval.proofs.Inequalities.{bound_by}

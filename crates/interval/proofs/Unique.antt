@@ -1,9 +1,9 @@
 -- Each operation has one result.
 use Rattle.fx_model.specs.Fraction.{Fraction}
-use Rattle.fx_model.specs.Enclosure.{Range, IsEnclosure, IsProduct, IsQuotient, enclosure_unique}
-use Rattle.fx_model.specs.Enclosure.{product_unique}
+use Rattle.fx_model.specs.Enclosure.{Range, IsEnclosure, IsProduct, IsQuotient}
+use Rattle.fx_model.proofs.Enclosure.{enclosure_unique, product_unique}
 use Rattle.interval.specs.Unique.{IsOnly}
-use Rattle.interval.specs.Results.{quotient_unique}
+use Rattle.interval.proofs.Results.{quotient_unique}
 
 pub enclosure_only : (S : Fraction → Type 0) → IsOnly (IsEnclosure S)
 enclosure_only S t u i j = enclosure_unique S t u i j

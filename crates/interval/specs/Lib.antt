@@ -4,15 +4,11 @@ pub mod Spans
 pub mod Pairs
 pub mod Unique
 pub mod Exact
-pub mod Enclosures
 pub mod Squares
 pub mod Decided
 pub mod Meets
 pub mod Outward
 pub mod Results
 pub mod Literals
-pub mod Written
 pub mod Multiples
-pub mod Shrunk
-pub mod Monotone
 pub mod Members

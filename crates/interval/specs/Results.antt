@@ -1,14 +1,13 @@
 -- The results of operations as intervals: functions, each with the law that it is the best
 -- interval.
-use Rattle.std.specs.Prelude.{◌≡◌, ◌⊎◌, Bool, true, false, not, ◌&&◌, Option, Some, None, refl}
+use Rattle.std.specs.Prelude.{◌≡◌, Bool, true, false, not, ◌&&◌, Option, Some, None, refl}
 use Rattle.std.proofs.Common.{sym, ap, ◌∙◌, subst, ⊎_elim}
 use Rattle.fx_model.specs.Fraction.{Fraction, zero_ℚ, ◌≤ℚ◌, le_refl, le_antisymm}
 use Rattle.fx_model.specs.Grid.{Bound, Below, At, Above, le_bound}
 use Rattle.fx_model.specs.Enclosure.{Range, IsOrdered, IsFrom, IsUpTo, Lies, BoundLe, IsEnclosure}
 use Rattle.fx_model.specs.Enclosure.{IsInfimum, IsSupremum, Sums, Differences, Negations, Sizes}
 use Rattle.fx_model.specs.Enclosure.{Products, Quotients, whole_line, IsNegation, IsSize, IsSum}
-use Rattle.fx_model.specs.Enclosure.{IsDifference, IsProduct, IsQuotient, enclosure_unique}
-use Rattle.fx_model.specs.Enclosure.{product_unique, enclosure_ordered}
+use Rattle.fx_model.specs.Enclosure.{IsDifference, IsProduct, IsQuotient, enclosure_ordered}
 use Rattle.fx_model.specs.Enclosure.Unique.{both_or}
 use Rattle.grid_words.specs.Sums.{sum_range, sum_range_is, sum_range_ordered, difference_range}
 use Rattle.grid_words.specs.Sums.{difference_range_is, difference_range_ordered, negation_range}
@@ -19,12 +18,11 @@ use Rattle.grid_words.specs.Products.{product_range, product_range_is, product_r
 use Rattle.grid_words.specs.Products.{quotient_range, quotient_range_is, quotient_range_ordered}
 use Rattle.dyadic.specs.Ends.{bound_of}
 use Rattle.dyadic.specs.Compared.{BoundLe_in, BoundLe_out}
-use Rattle.dyadic.specs.Values.{value_of, zero_number, on_grid}
-use Rattle.dyadic.specs.declared.number.Dyadic.{Dyadic}
+use Rattle.dyadic.specs.Values.{zero_number}
 use Rattle.dyadic.specs.declared.number.End.TheVariants as end
 use Rattle.dyadic.specs.Made.{IsGridBound, end_of, end_of-bound}
 use Rattle.interval.specs.declared.interval.Interval.{Interval}
-use Rattle.interval.specs.Intervals.{range_of, same_range}
+use Rattle.interval.specs.Intervals.{range_of}
 use Rattle.interval.specs.Literals.{Alone}
 use Rattle.interval.specs.Decided.{made, made-some, made-none, made_out}
 
@@ -44,7 +42,7 @@ interval_of r g = record {
       (subst (λ b. IsOrdered r.low b) (sym (end_of-bound r.high g.high)) g.ordered);
 }
 
-abbrev from_bounds : Bound → Bound → Range
+abbrev pub from_bounds : Bound → Bound → Range
 from_bounds b c = record { low = b; high = c }
 
 pub interval_of-range : (r : Range) (g : IsGridRange r) → range_of (interval_of r g) ≡ r
@@ -86,10 +84,6 @@ negation_of-is i = subst (IsNegation (range_of i))
     (sym (interval_of-range (negation_range (range_of i)) (negation_grid i)))
     (negation_range_is (range_of i) i.ordered)
 
-pub negation_only : (i k : Interval) → IsNegation (range_of i) (range_of k) → k ≡ negation_of i
-negation_only i k p = same_range k (negation_of i) (enclosure_unique (Negations (range_of i))
-    (range_of k) (range_of (negation_of i)) p (negation_of-is i))
-
 sum_grid : (i j : Interval) → IsGridRange (sum_range (range_of i) (range_of j))
 sum_grid i j = enclosed (Sums (range_of i) (range_of j)) (sum_range (range_of i) (range_of j))
     (sum_range_ordered (range_of i) (range_of j) i.ordered j.ordered)
@@ -103,10 +97,6 @@ unfolding sum_of
 sum_of-is i j = subst (IsSum (range_of i) (range_of j))
     (sym (interval_of-range (sum_range (range_of i) (range_of j)) (sum_grid i j)))
     (sum_range_is (range_of i) (range_of j) i.ordered j.ordered)
-
-pub sum_only : (i j k : Interval) → IsSum (range_of i) (range_of j) (range_of k) → k ≡ sum_of i j
-sum_only i j k p = same_range k (sum_of i j) (enclosure_unique (Sums (range_of i) (range_of j))
-    (range_of k) (range_of (sum_of i j)) p (sum_of-is i j))
 
 difference_grid : (i j : Interval) → IsGridRange (difference_range (range_of i) (range_of j))
 difference_grid i j =
@@ -124,12 +114,6 @@ difference_of-is i j = subst (IsDifference (range_of i) (range_of j))
     (sym (interval_of-range (difference_range (range_of i) (range_of j)) (difference_grid i j)))
     (difference_range_is (range_of i) (range_of j) i.ordered j.ordered)
 
-pub difference_only : (i j k : Interval)
-    → IsDifference (range_of i) (range_of j) (range_of k) → k ≡ difference_of i j
-difference_only i j k p =
-    same_range k (difference_of i j) (enclosure_unique (Differences (range_of i) (range_of j))
-    (range_of k) (range_of (difference_of i j)) p (difference_of-is i j))
-
 size_grid : (i : Interval) → IsGridRange (size_range (range_of i))
 size_grid i = enclosed (Sizes (range_of i)) (size_range (range_of i))
     (size_range_ordered (range_of i) i.ordered) (size_range_is (range_of i) i.ordered)
@@ -142,10 +126,6 @@ unfolding size_of
 size_of-is i =
     subst (IsSize (range_of i)) (sym (interval_of-range (size_range (range_of i)) (size_grid i)))
     (size_range_is (range_of i) i.ordered)
-
-pub size_only : (i k : Interval) → IsSize (range_of i) (range_of k) → k ≡ size_of i
-size_only i k p = same_range k (size_of i)
-    (enclosure_unique (Sizes (range_of i)) (range_of k) (range_of (size_of i)) p (size_of-is i))
 
 -- ---- products, and quotients where 0 isn't in the divisor
 product_grid : (i j : Interval) → IsGridRange (product_range (range_of i) (range_of j))
@@ -166,11 +146,6 @@ unfolding product_of
 product_of-is i j = subst (IsProduct (range_of i) (range_of j))
     (sym (interval_of-range (product_range (range_of i) (range_of j)) (product_grid i j)))
     (product_range_is (range_of i) (range_of j) i.ordered j.ordered)
-
-pub product_only : (i j k : Interval)
-    → IsProduct (range_of i) (range_of j) (range_of k) → k ≡ product_of i j
-product_only i j k p = same_range k (product_of i j) (product_unique (range_of i) (range_of j)
-    (range_of k) (range_of (product_of i j)) p (product_of-is i j))
 
 -- whether 0 lies in the interval
 abbrev pub has_zero : Range → Bool
@@ -279,16 +254,6 @@ quotient_of-is i j k e = let q =
     made_out IsNonzero nonzero_prop nonzero_test nonzero_in nonzero_out quotient_with (i, j) k e in
     subst (λ k. IsQuotient (range_of i) (range_of j) (range_of k)) q.1 (quotient_with-is (i, j) q.0)
 
-pub quotient_unique : (r s t u : Range) → IsQuotient r s t → IsQuotient r s u → t ≡ u
-quotient_unique r s t u i j = ⊎_elim (λ f. enclosure_unique (Quotients r s) t u (i.finite f.0 f.1)
-    (j.finite f.0 f.1)) (λ n. i.infinite n ∙ sym (j.infinite n)) (both_or r s)
-
-pub quotient_only : (i j k : Interval) → IsQuotient (range_of i) (range_of j) (range_of k)
-    → quotient_of i j ≡ Some k
-quotient_only i j k p = let q = quotient_of-some i j p.nonzero in
-    q.1 ∙ ap Some (same_range q.0 k (quotient_unique (range_of i) (range_of j) (range_of q.0)
-    (range_of k) (quotient_of-is i j q.0 q.1) p))
-
 -- ---- one fraction
 alone_range : Fraction → Range
 alone_range x = record { low = At x; high = At x }
@@ -312,10 +277,6 @@ unfolding point_of
 point_of-is x = subst (IsEnclosure (Alone x))
     (sym (interval_of-range (outward (alone_range x)) (alone_grid x))) (alone_range_is x)
 
-pub point_only : (x : Fraction) (k : Interval) → IsEnclosure (Alone x) (range_of k) → k ≡ point_of x
-point_only x k p = same_range k (point_of x)
-    (enclosure_unique (Alone x) (range_of k) (range_of (point_of x)) p (point_of-is x))
-
 -- ---- single intervals
 -- from minus to plus infinity
 abbrev pub whole_interval : Interval
@@ -324,19 +285,3 @@ whole_interval = record { lo = end.Low; hi = end.High; ordered = tt }
 -- 0 and above
 abbrev pub half_line : Interval
 half_line = record { lo = end.At zero_number; hi = end.High; ordered = tt }
-
--- a number of the grid alone
-pub alone_is : (d : Dyadic)
-    → IsEnclosure (Alone (value_of d)) (from_bounds (At (value_of d)) (At (value_of d)))
-alone_is d = record {
-  low = (
-    on_grid d,
-    λ x e. subst (λ y. value_of d ≤ℚ y) (sym e) (le_refl (value_of d)),
-    λ h o f. f (value_of d) refl,
-  );
-  high = (
-    on_grid d,
-    λ x e. subst (λ y. y ≤ℚ value_of d) (sym e) (le_refl (value_of d)),
-    λ h o f. f (value_of d) refl,
-  );
-}

@@ -14,7 +14,7 @@ use Rattle.literal.specs.Parts.{FindsOne, BeginsWithNo, StandsBehind, StandsBehi
 use Rattle.literal.specs.Parts.{IsFrontDigits, Scale, IsScale, IsBody, FindsBody, FindsParts}
 use Rattle.literal.specs.Parts.{spelling_of}
 use Rattle.literal.proofs.Front.{same_front, scale_no_point, tail_no_x}
-use Rattle.literal.specs.Tails.{tail_ends, scale_ends}
+use Rattle.literal.proofs.Tails.{tail_ends, scale_ends}
 
 abbrev pub spelling : Form → List ℕ → List ℕ → Option Exponent → Spelling
 spelling f w p e = record { form = f; whole = w; fraction = p; exponent = e }

@@ -13,8 +13,8 @@ use Rattle.fx_model.specs.Powers.{scaled-zero, IsMultiple}
 use Rattle.fx_model.specs.Expression.{literal_value}
 use Rattle.fx_model.specs.declared.Literal.{Literal}
 use Rattle.literal.specs.Normal.{HasFives, IsCapped, IsNormal, IsFix, HasNoFix}
-use Rattle.literal.specs.Limits.{bounded}
-use Rattle.literal.specs.Tens.{zero_value}
+use Rattle.literal.proofs.Limits.{bounded}
+use Rattle.literal.proofs.Tens.{zero_value}
 use Rattle.literal.proofs.Numbers.{twos_are}
 use Rattle.literal.proofs.Multiples.{fix_is, odd_mul, five_odd, odd_divides, value_whole}
 use Rattle.literal.proofs.Multiples.{value_part, multiple_by_five}

@@ -8,7 +8,7 @@ use Rattle.literal.specs.declared.scan.Form.{Form}
 use Rattle.literal.specs.declared.scan.Form.TheVariants.{Decimal, Binary, Hexadecimal}
 use Rattle.literal.specs.Spelling.{IsBetween}
 use Rattle.literal.specs.Normal.{nought, IsNormalOf, IsNormal, TakesTensOut, TakesTwosOut, IsSmall}
-use Rattle.literal.specs.Tens.{tens_moved, twos_moved, zero_value}
+use Rattle.literal.proofs.Tens.{tens_moved, twos_moved, zero_value}
 
 same_literal : (l : Literal) (n : ℕ) (two ten : ℤ) → l.num ≡ n → l.two ≡ two → l.ten ≡ ten
     → literal_value l ≡ literal_value (record { num = n; two = two; ten = ten })

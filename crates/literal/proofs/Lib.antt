@@ -5,3 +5,6 @@ pub mod Forms
 pub mod Numbers
 pub mod Multiples
 pub mod Fixes
+pub mod Tails
+pub mod Limits
+pub mod Tens

@@ -5,14 +5,14 @@ use Rattle.std.proofs.lemmas.Int.{ints, by_lt_z}
 use Rattle.std.proofs.Math.Nat.{pow-succ'}
 use Rattle.std.proofs.lemmas.Nat.{pow-add, mul-pow, mul-mod, mod-mul-add}
 use Rattle.fx_model.specs.Fraction.{◌*ℚ◌, ◌<ℚ◌, zero_ℚ, inverse_ℚ, mul-inverse, mul_comm, mul_assoc}
-use Rattle.fx_model.specs.Fraction.{mul_cancel, mul-one}
+use Rattle.fx_model.proofs.Fraction.{mul_cancel, mul-one}
 use Rattle.fx_model.specs.Powers.{whole, two_to, scaled, scaled-shift, whole-mul, IsMultiple}
 use Rattle.fx_model.specs.Powers.{scaled-same}
 use Rattle.fx_model.specs.Expression.{literal_value}
 use Rattle.fx_model.specs.Cut.Gaps.{gap_le}
 use Rattle.fx_model.specs.declared.Literal.{Literal}
 use Rattle.literal.specs.Normal.{IsFix, IsCapped}
-use Rattle.literal.specs.Tens.{whole_positive, pow_positive, not_zero}
+use Rattle.literal.proofs.Tens.{whole_positive, pow_positive, not_zero}
 
 -- ---- an odd number times 2^k is a multiple of 2^j where j is at most k, and of no other
 no_half : (o : ℕ) (z : ℤ) → pos o ≡ z *ℤ pos 2 → o % 2 ≡ 1 → ⊥

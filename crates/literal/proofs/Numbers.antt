@@ -7,7 +7,7 @@ use Rattle.std.proofs.lemmas.Nat.{mul-le, mod-pow-add, shr_split}
 use Rattle.std.proofs.lemmas.Bool.{cases_lt}
 use Rattle.std.specs.Char.{digit_value}
 use Rattle.std.specs.Str.Parse.{digits_value, digits_value_after}
-use Rattle.literal.specs.Tens.{pow_step}
+use Rattle.literal.proofs.Tens.{pow_step}
 
 pub after_step : (r n i : ℕ) (ds : List ℕ) → i < length ds → digits_value_after r n (drop i ds)
     ≡ digits_value_after r (n * r + digit_value (get_or ds i 0)) (drop (i + 1) ds)

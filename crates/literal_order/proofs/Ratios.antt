@@ -4,11 +4,12 @@ use Rattle.std.proofs.Common.{ap, ◌∙◌, subst, arith}
 use Rattle.std.proofs.lemmas.Int.{ints}
 use Rattle.std.proofs.lemmas.Bool.{ltb-true, lt-ltb}
 use Rattle.fx_model.specs.Fraction.{Fraction, ◌*ℚ◌, ◌≤ℚ◌, ◌<ℚ◌, zero_ℚ, lt_le, mul-le_cancel}
-use Rattle.fx_model.specs.Fraction.{mul-lt, mul-lt_cancel, mul_comm, mul_assoc, zero-mul}
+use Rattle.fx_model.specs.Fraction.{mul-lt, mul_comm, mul_assoc, zero-mul}
+use Rattle.fx_model.proofs.Fraction.{mul-lt_cancel}
 use Rattle.fx_model.specs.Powers.{whole, scaled, scaled-lt, scaled-lt_out, scaled-le, scaled-shift}
 use Rattle.fx_model.specs.Powers.{scaled-zero}
-use Rattle.fx_model.specs.Cut.Digits.{scaled_times}
-use Rattle.literal.specs.Tens.{whole_positive}
+use Rattle.fx_model.proofs.Cut.Digits.{scaled_times}
+use Rattle.literal.proofs.Tens.{whole_positive}
 
 -- the value is n * 2^t / d
 pub record IsRatio (v : Fraction) (n d : ℕ) (t : ℤ) : Type 0 where

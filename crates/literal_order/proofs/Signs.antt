@@ -1,8 +1,9 @@
 -- The order of numbers with their signs, by that of their sizes.
 use Rattle.std.proofs.Common.{◌≡◌, Bool, true, false, ◌&&◌, ◌||◌, IsTrue, ◌↔◌, refl, subst, ⊎_elim}
 use Rattle.fx_model.specs.Fraction.{Fraction, ◌≤ℚ◌, ◌<ℚ◌, zero_ℚ, neg_ℚ, lt_by, lt_not, le_or_lt}
-use Rattle.fx_model.specs.Fraction.{le_trans, le_lt_trans, lt_le_trans, neg-le, neg-lt, neg_zero}
-use Rattle.fx_model.specs.Fraction.{neg_up, neg_down}
+use Rattle.fx_model.specs.Fraction.{le_trans, le_lt_trans, lt_le_trans, neg-le, neg_zero, neg_up}
+use Rattle.fx_model.specs.Fraction.{neg_down}
+use Rattle.fx_model.proofs.Fraction.{neg-lt}
 use Rattle.fx_model.specs.Grid.{signed}
 
 neg-lt_out : (x y : Fraction) → neg_ℚ y <ℚ neg_ℚ x → x <ℚ y

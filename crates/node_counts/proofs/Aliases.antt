@@ -7,7 +7,7 @@ use Rattle.std.proofs.lemmas.Slice.Eq.{bytes_eq-Decides}
 use Rattle.std.proofs.lemmas.Bool.{or_parts}
 use Rattle.fx_model.specs.declared.Rounding.{Rounding}
 use Rattle.fx_model.specs.declared.ExprId.{ExprId}
-use Rattle.facts.specs.CommonParts.{all_last}
+use Rattle.facts.proofs.CommonParts.{all_last}
 use Rattle.script_words.specs.declared.class.Spelled.TheVariants as spelled
 use Rattle.script_words.specs.declared.class.Symbol.TheVariants as s
 use Rattle.script_words.specs.Words.{Word, name, rounding, sign}
@@ -19,8 +19,8 @@ use Rattle.script_shape.specs.Tree.{How, exactly, rounded_by, rounded_apart, rou
 use Rattle.script_shape.specs.Tree.{Definition, names_operator, names_value}
 use Rattle.script_shape.specs.Roles.{Leaf, at, name_leaves, whole_leaves, operator_leaves}
 use Rattle.script_shape.specs.Roles.{how_leaves, expr_leaves, definition_leaves}
-use Rattle.script_shape.specs.Inner.{EachRole, IsInner, each_of_both, each_as, digits_roles}
-use Rattle.script_shape.specs.Inner.{special_roles, expr_inner}
+use Rattle.script_shape.proofs.Inner.{EachRole, IsInner, each_of_both, each_as, digits_roles}
+use Rattle.script_shape.proofs.Inner.{special_roles, expr_inner}
 use Rattle.script_cases.specs.Parts.{nothing as nothing_read}
 use Rattle.script_judge.specs.Names.{Name, is_among, is_some_among, is_used, is_used_before_end}
 use Rattle.script_judge.specs.Names.{defines, with_some, ended, operand_name, split_name}
@@ -29,7 +29,8 @@ use Rattle.script_judge.specs.Numbers.{Notes, has_no_pieces}
 use Rattle.script_judge.specs.Subject.{Subject, nothing, node_of, other, Alias, aliases_after}
 use Rattle.script_judge.specs.Splits.{is_rangeless, is_bad_point}
 use Rattle.script_judge.specs.Judge.{Seen, seen_after, is_on_wrong_side, form_kind, form_refusal}
-use Rattle.script_judge.specs.Judge.{limit_refusal, refusal_at, nothing_seen, fails, both_none}
+use Rattle.script_judge.specs.Judge.{limit_refusal, refusal_at, nothing_seen}
+use Rattle.script_judge.proofs.JudgeLaws.{fails, both_none}
 use Rattle.script_judge.specs.Sides.{has_arrow}
 use Rattle.script_nodes.specs.Known.{Known, PlacedNode, entry_of, with_entry}
 use Rattle.script_nodes.specs.Operators.{rounding_of}

@@ -37,7 +37,8 @@ use Rattle.script_judge.specs.Sides.{has_arrow}
 use Rattle.script_judge.specs.Splits.{Ends, ends_at, ends_between, ranges_after, parts_after}
 use Rattle.script_judge.specs.Splits.{is_rangeless, is_bad_point}
 use Rattle.script_judge.specs.Judge.{Seen, seen_after, is_on_wrong_side, form_kind, form_refusal}
-use Rattle.script_judge.specs.Judge.{limit_refusal, refusal_at, fails, both_none}
+use Rattle.script_judge.specs.Judge.{limit_refusal, refusal_at}
+use Rattle.script_judge.proofs.JudgeLaws.{fails, both_none}
 use Rattle.script_nodes.specs.Literals.{literal_of, LiteralsAreTold, SpelledOnce}
 use Rattle.script_nodes.specs.Written.{bound_written}
 use Rattle.script_claims.specs.declared.claim.Claim.TheVariants.{Bounded}

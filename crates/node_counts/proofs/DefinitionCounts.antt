@@ -14,8 +14,8 @@ use Rattle.script_shape.specs.Tree.{How, exactly, rounded_by, rounded_apart, rou
 use Rattle.script_shape.specs.Tree.{Definition, names_operator, names_value}
 use Rattle.script_shape.specs.Roles.{Leaf, at, name_leaves, whole_leaves, operator_leaves}
 use Rattle.script_shape.specs.Roles.{how_leaves, expr_leaves, definition_leaves}
-use Rattle.script_shape.specs.Inner.{EachRole, IsInner, each_of_both, each_as, digits_roles}
-use Rattle.script_shape.specs.Inner.{special_roles, operator_rest, operator_roles, expr_inner}
+use Rattle.script_shape.proofs.Inner.{EachRole, IsInner, each_of_both, each_as, digits_roles}
+use Rattle.script_shape.proofs.Inner.{special_roles, operator_rest, operator_roles, expr_inner}
 use Rattle.script_judge.specs.Counts.{one_if}
 use Rattle.script_judge.specs.Names.{Name, is_among, with_some}
 use Rattle.script_judge.specs.Numbers.{Notes}

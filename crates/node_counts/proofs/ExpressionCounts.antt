@@ -7,7 +7,7 @@ use Rattle.script_shape.specs.declared.due.Due.{Due}
 use Rattle.script_shape.specs.declared.due.Due.TheVariants as d
 use Rattle.script_shape.specs.Expressions.{Expr}
 use Rattle.script_shape.specs.Roles.{Leaf, expr_leaves}
-use Rattle.script_shape.specs.Inner.{EachRole, IsInner, expr_inner}
+use Rattle.script_shape.proofs.Inner.{EachRole, IsInner, expr_inner}
 use Rattle.script_judge.specs.Counts.{one_if, nodes_at}
 use Rattle.script_judge.specs.Names.{Name, with_some, operand_name, is_some_apart}
 use Rattle.script_judge.specs.Numbers.{Notes}

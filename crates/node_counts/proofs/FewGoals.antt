@@ -10,7 +10,7 @@ use Rattle.script_shape.specs.Propositions.{or, implies}
 use Rattle.script_shape.specs.Tree.{Script, formula, define}
 use Rattle.script_shape.specs.Roles.{Leaf, at, prop_leaves, stated_leaves, formula_leaves}
 use Rattle.script_shape.specs.Roles.{definition_leaves, script_leaves}
-use Rattle.script_shape.specs.Inner.{EachRole}
+use Rattle.script_shape.proofs.Inner.{EachRole}
 use Rattle.script_judge.specs.declared.counts.ScriptPart.TheVariants as place
 use Rattle.script_judge.specs.Counts.{one_if, is_first, begins_proposition}
 use Rattle.script_judge.specs.Judge.{Seen, seen_after, nothing_seen}

@@ -6,7 +6,7 @@ use Rattle.std.specs.List.{AllByRecursion, list_any}
 use Rattle.std.specs.Str.{bytes_eq}
 use Rattle.std.proofs.lemmas.Slice.Eq.{bytes_eq-Decides}
 use Rattle.fx_model.specs.declared.ExprId.{ExprId}
-use Rattle.facts.specs.CommonParts.{all_last}
+use Rattle.facts.proofs.CommonParts.{all_last}
 use Rattle.script_words.specs.declared.class.Symbol.TheVariants as s
 use Rattle.script_words.specs.Words.{Word, sign}
 use Rattle.script_shape.specs.declared.due.Due.{Due}
@@ -25,12 +25,13 @@ use Rattle.script_shape.specs.Roles.{Leaf, expr_leaves, name_leaves, needs_leave
 use Rattle.script_shape.specs.Roles.{names_leaves, halving_leaves, hint_leaves, hints_leaves}
 use Rattle.script_shape.specs.Roles.{operator_leaves, prop_leaves, stated_leaves, formula_leaves}
 use Rattle.script_shape.specs.Roles.{how_leaves, definition_leaves, script_leaves}
-use Rattle.script_shape.specs.Inner.{EachRole, IsInner, each_of_both, each_as, name_roles}
-use Rattle.script_shape.specs.Inner.{operator_roles, expr_inner}
+use Rattle.script_shape.proofs.Inner.{EachRole, IsInner, each_of_both, each_as, name_roles}
+use Rattle.script_shape.proofs.Inner.{operator_roles, expr_inner}
 use Rattle.script_judge.specs.Names.{Name, is_among, split_name, halved_after}
 use Rattle.script_judge.specs.Numbers.{Notes}
 use Rattle.script_judge.specs.Judge.{Seen, seen_after, form_refusal, limit_refusal, Judged}
-use Rattle.script_judge.specs.Judge.{nothing_seen, both_none}
+use Rattle.script_judge.specs.Judge.{nothing_seen}
+use Rattle.script_judge.proofs.JudgeLaws.{both_none}
 use Rattle.script_judge.specs.Sides.{has_arrow}
 use Rattle.script_nodes.specs.Definitions.{definition_value, name_text}
 use Rattle.script_nodes.specs.Known.{Known, named}

@@ -15,7 +15,8 @@ use Rattle.script_judge.specs.declared.counts.Counts.{Counts}
 use Rattle.script_judge.specs.declared.counts.ScriptPart.TheVariants as place
 use Rattle.script_judge.specs.Counts.{one_if, begins_hint, place_after}
 use Rattle.script_judge.specs.Judge.{Seen, seen_after, form_refusal, limit_kind, limit_refusal}
-use Rattle.script_judge.specs.Judge.{Judged, nothing_seen, fails, both_none}
+use Rattle.script_judge.specs.Judge.{Judged, nothing_seen}
+use Rattle.script_judge.proofs.JudgeLaws.{fails, both_none}
 use Rattle.script_judge.specs.Sides.{has_arrow}
 use Rattle.node_counts.proofs.Passing.{Passes, passes_all, passes_both}
 use Rattle.node_counts.proofs.WordRoles.{IsOfProp, prop_roles, IsOfHint, hint_roles}

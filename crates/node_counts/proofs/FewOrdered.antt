@@ -4,7 +4,7 @@ use Rattle.std.proofs.Common.{false, ◌||◌, if◌then◌else◌, refl, ap, sy
 use Rattle.std.proofs.Common.{length-append, eqb-true}
 use Rattle.std.specs.List.{AllByRecursion, list_any}
 use Rattle.fx_model.specs.declared.ExprId.{ExprId}
-use Rattle.facts.specs.CommonParts.{all_last}
+use Rattle.facts.proofs.CommonParts.{all_last}
 use Rattle.script_shape.specs.Hints.{Names, last_name, more_names, Halving, halved_by, with_goal}
 use Rattle.script_shape.specs.Hints.{Hint, rewrite, like, split, halving, Hints, no_hint, hint}
 use Rattle.script_shape.specs.Tree.{Script, formula, define}

@@ -8,7 +8,7 @@ use Rattle.dyadic.specs.declared.number.End.{End}
 use Rattle.dyadic.specs.declared.number.End.TheVariants as end
 use Rattle.interval.specs.Results.{point_of}
 use Rattle.literal_order.specs.Values.{written_value}
-use Rattle.facts.specs.CommonParts.{all_last}
+use Rattle.facts.proofs.CommonParts.{all_last}
 use Rattle.script_shape.specs.Hints.{Points, last_point, more_points, CutForm, in_four, pieces}
 use Rattle.script_shape.specs.Hints.{at_points, Names, last_name, more_names, Halving, halved_by}
 use Rattle.script_shape.specs.Hints.{with_goal, Hint, rewrite, like, split, halving, Hints, no_hint}

@@ -9,7 +9,7 @@ use Rattle.script_shape.specs.declared.due.Due.TheVariants as d
 use Rattle.script_shape.specs.Propositions.{Prop, Stated, affirmed, denied, Formula, single, and}
 use Rattle.script_shape.specs.Propositions.{or, implies}
 use Rattle.script_shape.specs.Roles.{Leaf, at, prop_leaves, stated_leaves, formula_leaves}
-use Rattle.script_shape.specs.Inner.{EachRole, each_of_both, each_as}
+use Rattle.script_shape.proofs.Inner.{EachRole, each_of_both, each_as}
 use Rattle.script_judge.specs.Counts.{nodes_at}
 use Rattle.script_judge.specs.Names.{with_some, operand_name, is_some_apart}
 use Rattle.script_judge.specs.Numbers.{Notes}

@@ -6,7 +6,7 @@ use Rattle.script_shape.specs.declared.due.Due.{Due}
 use Rattle.script_shape.specs.declared.due.Due.TheVariants as d
 use Rattle.script_shape.specs.Hints.{Hint, Hints, no_hint, hint}
 use Rattle.script_shape.specs.Roles.{Leaf, hint_leaves, hints_leaves}
-use Rattle.script_shape.specs.Inner.{EachRole, each_of_both, each_as}
+use Rattle.script_shape.proofs.Inner.{EachRole, each_of_both, each_as}
 use Rattle.script_judge.specs.Counts.{nodes_at}
 use Rattle.script_judge.specs.Names.{is_among, with_some, operand_name, split_name, is_some_apart}
 use Rattle.script_judge.specs.Numbers.{Notes}

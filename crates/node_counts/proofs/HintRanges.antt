@@ -7,7 +7,7 @@ use Rattle.std.specs.Option.{is_some}
 use Rattle.std.specs.Str.{bytes_eq}
 use Rattle.std.proofs.lemmas.Slice.Eq.{bytes_eq-Decides}
 use Rattle.fx_model.specs.declared.ExprId.{ExprId}
-use Rattle.facts.specs.CommonParts.{all_last}
+use Rattle.facts.proofs.CommonParts.{all_last}
 use Rattle.script_words.specs.declared.class.Symbol.TheVariants as s
 use Rattle.script_words.specs.Words.{Word, name, rounding, sign}
 use Rattle.script_shape.specs.declared.due.Due.{Due}
@@ -20,9 +20,9 @@ use Rattle.script_shape.specs.Tree.{Script, formula, define}
 use Rattle.script_shape.specs.Roles.{Leaf, at, expr_leaves, name_leaves, cut_leaves, names_leaves}
 use Rattle.script_shape.specs.Roles.{halving_leaves, hint_leaves, hints_leaves, formula_leaves}
 use Rattle.script_shape.specs.Roles.{definition_leaves, script_leaves}
-use Rattle.script_shape.specs.Inner.{EachRole, IsInner, each_as, name_roles, expr_inner}
+use Rattle.script_shape.proofs.Inner.{EachRole, IsInner, each_as, name_roles, expr_inner}
 use Rattle.script_cases.specs.Cases.{cases}
-use Rattle.script_cases.specs.Counted.{cases_are_counted, few_before}
+use Rattle.script_cases.proofs.Counted.{cases_are_counted, few_before}
 use Rattle.script_cases.specs.Met.{SomeOf}
 use Rattle.script_cases.specs.Parts.{Parts}
 use Rattle.script_judge.specs.Names.{Name}

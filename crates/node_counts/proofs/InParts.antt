@@ -6,9 +6,9 @@ use Rattle.std.proofs.lemmas.Grind.{flat_map-append}
 use Rattle.std.proofs.lemmas.List.{length-append}
 use Rattle.std.proofs.Math.Nat.{one-le-mul}
 use Rattle.script_cases.specs.Cases.{cases, case_count, all_items}
-use Rattle.script_cases.specs.Counted.{cases_are_counted}
+use Rattle.script_cases.proofs.Counted.{cases_are_counted}
 use Rattle.script_cases.specs.Parts.{Parts, with_item, part_of, behind_or, behind_arrow}
-use Rattle.script_cases.specs.Lists.{all_joined, all_front, all_behind, all_as}
+use Rattle.script_cases.proofs.Lists.{all_joined, all_front, all_behind, all_as}
 
 pub record AllInParts {X : Type 0} (P : X → Type 0) (p : Parts X) : Type 0 where
   pub before : AllByRecursion P (all_items p.before)

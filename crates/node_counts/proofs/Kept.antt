@@ -15,7 +15,7 @@ use Rattle.script_shape.specs.declared.due.Due.{Due}
 use Rattle.script_shape.specs.declared.due.Due.TheVariants as d
 use Rattle.script_shape.specs.Roles.{Leaf}
 use Rattle.script_cases.specs.Cases.{cases}
-use Rattle.script_cases.specs.Counted.{all_of_cases}
+use Rattle.script_cases.proofs.Counted.{all_of_cases}
 use Rattle.script_cases.specs.Met.{SomeOf}
 use Rattle.script_cases.specs.Parts.{Parts, begun_cases}
 use Rattle.script_judge.specs.declared.counts.Counts.{Counts}
@@ -29,11 +29,11 @@ use Rattle.script_judge.specs.Splits.{Ends, SplitRange, ends_between, with_range
 use Rattle.script_judge.specs.Splits.{parts_after, range_of, case_ranges, is_rangeless}
 use Rattle.script_judge.specs.Splits.{is_bad_point}
 use Rattle.script_judge.specs.Splits as splits
-use Rattle.script_judge.specs.FewCases.{still_few}
+use Rattle.script_judge.proofs.FewCases.{still_few}
 use Rattle.script_judge.specs.Numbers.{Notes, has_no_pieces, is_past_lsb, is_past_pieces}
 use Rattle.script_judge.specs.Judge.{Seen, seen_after, is_on_wrong_side, form_kind, form_refusal}
-use Rattle.script_judge.specs.Judge.{limit_kind, is_past_cases, limit_refusal, refusal_at, fails}
-use Rattle.script_judge.specs.Judge.{both_none}
+use Rattle.script_judge.specs.Judge.{limit_kind, is_past_cases, limit_refusal, refusal_at}
+use Rattle.script_judge.proofs.JudgeLaws.{fails, both_none}
 use Rattle.script_judge.specs.Sides.{has_arrow}
 use Rattle.node_counts.proofs.InParts.{AllInParts, all_parts_as, item_in_parts, or_in_parts}
 use Rattle.node_counts.proofs.InParts.{arrow_in_parts, AreFilled, filled_more, some_case}

@@ -21,7 +21,7 @@ use Rattle.script_shape.specs.Table.{takes, role_of}
 use Rattle.script_shape.specs.Shape.{step, role_at_top, role_next, start}
 use Rattle.script_shape.specs.ShapeLaw.{grown, roles_from, RolesAreUnique}
 use Rattle.script_shape.specs.Roles.{Leaf, HasRoles, script_leaves, LeavesSpell}
-use Rattle.script_shape.specs.Inner.{EachRole}
+use Rattle.script_shape.proofs.Inner.{EachRole}
 use Rattle.script_judge.specs.Names.{Name, is_among}
 
 -- ---- the signs `=`, `;` and `@` have roles of their own

@@ -8,7 +8,7 @@ use Rattle.fx_model.specs.declared.ExprId.{ExprId}
 use Rattle.fx_model.specs.declared.Node.{Node}
 use Rattle.fx_model.specs.declared.Node.TheVariants.{Var, Neg, Add, Mul, Abs, Round}
 use Rattle.expr_dag.specs.Nodes.{same_node, place_of, placed, with_node}
-use Rattle.expr_dag.specs.Same.{itself}
+use Rattle.expr_dag.proofs.Same.{itself}
 use Rattle.script_shape.specs.Expressions.{Expr, term, sum, difference, Term, factor, product}
 use Rattle.script_shape.specs.Expressions.{quotient, Factor, negation, atom, Atom, number, variable}
 use Rattle.script_shape.specs.Expressions.{parenthesized, absolute, called, rounded, fused}

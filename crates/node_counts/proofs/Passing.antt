@@ -5,7 +5,7 @@ use Rattle.script_words.specs.Words.{Word}
 use Rattle.script_shape.specs.declared.due.Due.{Due}
 use Rattle.script_shape.specs.declared.due.Due.TheVariants as d
 use Rattle.script_shape.specs.Roles.{Leaf}
-use Rattle.script_shape.specs.Inner.{EachRole}
+use Rattle.script_shape.proofs.Inner.{EachRole}
 use Rattle.script_judge.specs.declared.fault.Fault.{Fault}
 use Rattle.script_judge.specs.Names.{Name}
 use Rattle.script_judge.specs.Numbers.{Notes}

@@ -12,7 +12,7 @@ use Rattle.script_shape.specs.Hints.{Halving, halved_by, with_goal, Hint, rewrit
 use Rattle.script_shape.specs.Hints.{halving}
 use Rattle.script_shape.specs.Roles.{Leaf, operator_leaves, expr_leaves, term_leaves, factor_leaves}
 use Rattle.script_shape.specs.Roles.{atom_leaves, prop_leaves, halving_leaves, hint_leaves}
-use Rattle.script_shape.specs.Inner.{EachRole}
+use Rattle.script_shape.proofs.Inner.{EachRole}
 use Rattle.script_judge.specs.declared.counts.ScriptPart.{ScriptPart}
 use Rattle.script_judge.specs.declared.counts.ScriptPart.TheVariants as place
 use Rattle.script_judge.specs.Counts.{place_after}

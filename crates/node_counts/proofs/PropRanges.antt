@@ -3,7 +3,7 @@ use Rattle.std.proofs.Common.{◌≡◌, ◌⊎◌, inl, inr, suc, List, [], ◌
 use Rattle.std.proofs.Common.{None, Bool, true, false, refl, sym, ap, ◌∙◌, subst}
 use Rattle.std.specs.List.{flat_map, AllByRecursion}
 use Rattle.fx_model.specs.declared.ExprId.{ExprId}
-use Rattle.facts.specs.CommonParts.{all_as, all_last}
+use Rattle.facts.proofs.CommonParts.{all_as, all_last}
 use Rattle.script_words.specs.declared.class.Spelled.TheVariants as spelled
 use Rattle.script_words.specs.declared.class.Symbol.TheVariants as s
 use Rattle.script_words.specs.Words.{sign}
@@ -15,8 +15,8 @@ use Rattle.script_shape.specs.Propositions.{Stated, affirmed, denied, Formula, s
 use Rattle.script_shape.specs.Propositions.{implies}
 use Rattle.script_shape.specs.Roles.{Leaf, whole_leaves, special_leaves, expr_leaves, prop_leaves}
 use Rattle.script_shape.specs.Roles.{stated_leaves, formula_leaves}
-use Rattle.script_shape.specs.Inner.{EachRole, IsInner, each_of_both, each_as, bound_roles}
-use Rattle.script_shape.specs.Inner.{digits_roles, special_roles, expr_inner}
+use Rattle.script_shape.proofs.Inner.{EachRole, IsInner, each_of_both, each_as, bound_roles}
+use Rattle.script_shape.proofs.Inner.{digits_roles, special_roles, expr_inner}
 use Rattle.script_cases.specs.Cases.{with_first, cases}
 use Rattle.script_cases.specs.Parts.{Parts, nothing as nothing_read, with_item, part_of, behind_or}
 use Rattle.script_cases.specs.Parts.{behind_arrow}

@@ -17,7 +17,7 @@ use Rattle.script_shape.specs.Expressions.{product, quotient, Factor, negation, 
 use Rattle.script_shape.specs.Expressions.{variable, parenthesized, absolute, called, rounded}
 use Rattle.script_shape.specs.Expressions.{fused}
 use Rattle.script_shape.specs.Roles.{Leaf, expr_leaves, term_leaves, factor_leaves, atom_leaves}
-use Rattle.script_shape.specs.Inner.{EachRole, IsInner, expr_inner}
+use Rattle.script_shape.proofs.Inner.{EachRole, IsInner, expr_inner}
 use Rattle.script_judge.specs.Names.{Name, is_among, is_some_among, operand_name}
 use Rattle.script_judge.specs.Numbers.{Notes}
 use Rattle.script_judge.specs.Subject.{Subject, nothing, node_of, other, Alias, alias_of}

@@ -12,7 +12,7 @@ use Rattle.fx_model.specs.declared.ExprId.{ExprId}
 use Rattle.fx_model.specs.declared.Node.{Node}
 use Rattle.fx_model.specs.declared.Node.TheVariants.{Var}
 use Rattle.expr_dag.specs.Nodes.{same_node, numbered, place_of, placed, with_node}
-use Rattle.expr_dag.specs.Same.{itself}
+use Rattle.expr_dag.proofs.Same.{itself}
 use Rattle.script_nodes.specs.Known.{Name, Known, PlacedNode, entry_of, with_entry, put}
 use Rattle.script_nodes.specs.Known.{variables_with, variable_put, name_put, named}
 use Rattle.script_nodes.specs.Definitions.{with_value}

@@ -16,8 +16,8 @@ use Rattle.script_shape.specs.Roles.{Leaf, special_leaves, whole_leaves, bound_l
 use Rattle.script_shape.specs.Roles.{range_leaves, prop_leaves, name_leaves, need_leaves}
 use Rattle.script_shape.specs.Roles.{need_list_leaves, needs_leaves, points_leaves, cut_leaves}
 use Rattle.script_shape.specs.Roles.{names_leaves, halving_leaves, hint_leaves}
-use Rattle.script_shape.specs.Inner.{EachRole, IsInner, each_of_both, each_as, name_roles}
-use Rattle.script_shape.specs.Inner.{special_roles, digits_roles, bound_roles, expr_inner}
+use Rattle.script_shape.proofs.Inner.{EachRole, IsInner, each_of_both, each_as, name_roles}
+use Rattle.script_shape.proofs.Inner.{special_roles, digits_roles, bound_roles, expr_inner}
 
 -- ---- propositions
 

@@ -12,8 +12,8 @@ use Rattle.fx_model.specs.declared.Node.TheVariants.{Var, Lit, Neg, Add, Sub, Mu
 use Rattle.expr_dag.specs.Nodes.{IsAt, IsAbsent}
 use Rattle.pair_closure.specs.Reached.{Has, IsEachOnce, IsListOf}
 use Rattle.pair_closure.specs.Reached.IsReached.{begin, lead}
-use Rattle.pair_closure.specs.Members.{some-inj, has_first, has_cases, no_member, has_left}
-use Rattle.pair_closure.specs.Members.{has_right, has_either, kept_left, once_apart}
+use Rattle.pair_closure.proofs.Members.{some-inj, has_first, has_cases, no_member, has_left}
+use Rattle.pair_closure.proofs.Members.{has_right, has_either, kept_left, once_apart}
 use Rattle.pair_closure.specs.Closure.{Pair, difference_of, rank, IsKnownPair, IsFollowed, IsTaken}
 use Rattle.pair_closure.specs.Closure.{ClosuresAreOne}
 use Rattle.pair_closure.specs.Closure.BeginsExpressions.{written, difference}
@@ -22,7 +22,7 @@ use Rattle.pair_closure.specs.Differences.{IsBehind, sides_of, IsKnownDifference
 use Rattle.pair_closure.specs.Grown.{IsGrown}
 use Rattle.pair_closure.proofs.Grown.{grown_none, grown_both, grown_same}
 use Rattle.pair_closure.proofs.Whole.{same_pair, behind}
-use Rattle.pair_closure.specs.Rising.{one_list}
+use Rattle.pair_closure.proofs.Rising.{one_list}
 
 -- ---- what stands behind
 sides_out : (n : Node) (p : Pair) → Has (sides_of n) p → n ≡ Sub p.0 p.1

@@ -12,7 +12,7 @@ use Rattle.pair_closure.specs.Closure.{AreTooMany}
 use Rattle.pair_closure.specs.Closure.BeginsExpressions.{written, difference}
 use Rattle.pair_closure.specs.Differences.{IsGivenBy, IsDifferenceOf}
 use Rattle.pair_closure.specs.Grown.{IsGrown, IsOverfull}
-use Rattle.pair_closure.specs.Members.{ends_with}
+use Rattle.pair_closure.proofs.Members.{ends_with}
 use Rattle.pair_closure.proofs.GivenBy.{longer}
 use Rattle.pair_closure.proofs.Worklist.{IsWorked, worked_start, worked_step, worked_all}
 

@@ -9,7 +9,7 @@ use Rattle.pair_closure.specs.Reached.{Has, IsListOf, IsEachOnce}
 use Rattle.pair_closure.specs.Closure.{Pair, IsRounding, BeginsPairs, LeadsToPair, IsPair}
 use Rattle.pair_closure.specs.Closure.{AreManyPairs}
 use Rattle.pair_closure.specs.Grown.{IsGrown}
-use Rattle.pair_closure.specs.Members.{none_at, no_member}
+use Rattle.pair_closure.proofs.Members.{none_at, no_member}
 use Rattle.pair_closure.proofs.Grown.{grown_both}
 use Rattle.pair_closure.proofs.Worklist.{IsWorked, worked_start, worked_all}
 

@@ -3,7 +3,8 @@ use Rattle.std.specs.Prelude.{◌≡◌, ◌≢◌, ◌⊎◌, List}
 use Rattle.std.proofs.Common.{inl, inr, subst}
 use Rattle.fx_model.specs.declared.ExprId.{ExprId}
 use Rattle.fx_model.specs.declared.Node.{Node}
-use Rattle.expr_dag.specs.Nodes.{IsAt, one_node}
+use Rattle.expr_dag.specs.Nodes.{IsAt}
+use Rattle.expr_dag.proofs.Nodes.{one_node}
 use Rattle.pair_closure.specs.Reached.{Has}
 use Rattle.pair_closure.specs.Closure.{Pair, matched, rounded, LeadsToPair}
 use Rattle.pair_closure.specs.Closure.LeadsToPair.{operands, inside}

@@ -7,7 +7,7 @@ use Rattle.std.proofs.lemmas.Bool.{cases_lt}
 use Rattle.fx_model.specs.declared.Node.{Node}
 use Rattle.pair_closure.specs.Grown.{IsGrown, IsOverfull}
 use Rattle.pair_closure.specs.Differences.{IsGivenBy}
-use Rattle.pair_closure.specs.Members.{some-inj, has_first, has_rest, has_cases, no_member}
+use Rattle.pair_closure.proofs.Members.{some-inj, has_first, has_rest, has_cases, no_member}
 use Rattle.pair_closure.proofs.Listed.{HasBelow}
 use Rattle.pair_closure.proofs.Grown.{grown_both, grown_same, grown_none, overfull_later}
 use Rattle.pair_closure.proofs.Grown.{overfull_wider}

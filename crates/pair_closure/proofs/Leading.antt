@@ -5,7 +5,8 @@ use Rattle.fx_model.specs.declared.ExprId.{ExprId}
 use Rattle.fx_model.specs.declared.Node.{Node}
 use Rattle.fx_model.specs.declared.Node.TheVariants.{Var, Lit, Neg, Add, Sub, Mul, Div, Abs, Round}
 use Rattle.fx_model.specs.Expression.{IsOrdered}
-use Rattle.expr_dag.specs.Nodes.{IsAt, one_node}
+use Rattle.expr_dag.specs.Nodes.{IsAt}
+use Rattle.expr_dag.proofs.Nodes.{one_node}
 use Rattle.pair_closure.specs.Reached.{Has}
 use Rattle.pair_closure.specs.Reached.IsReached.{begin, lead}
 use Rattle.pair_closure.specs.Closure.{Pair, matched, matched_terms, AreApart, BeginsExpressions}
@@ -18,7 +19,7 @@ use Rattle.pair_closure.specs.Grown.{IsGrown, IsOverfull}
 use Rattle.pair_closure.proofs.Grown.{grown_both, grown_same, grown_none, overfull_later}
 use Rattle.pair_closure.proofs.Grown.{overfull_wider}
 use Rattle.pair_closure.proofs.Known.{children, matched_below}
-use Rattle.pair_closure.specs.Members.{no_member}
+use Rattle.pair_closure.proofs.Members.{no_member}
 
 -- terms are operands
 pub terms_matched : (m n : Node) (p : Pair) → Has (matched_terms m n) p → Has (matched m n) p

@@ -15,3 +15,10 @@ pub mod Leading
 pub mod Closing
 pub mod Pigeons
 pub mod Whole
+pub mod Reached
+pub mod Members
+pub mod Rising
+pub mod Ids
+pub mod Put
+pub mod RowLaws
+pub mod Look

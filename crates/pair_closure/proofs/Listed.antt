@@ -5,7 +5,7 @@ use Rattle.std.proofs.lemmas.Option.{slice_get_within}
 use Rattle.std.proofs.lemmas.Bool.{cases_lt}
 use Rattle.pair_closure.specs.Reached.{Has}
 use Rattle.pair_closure.specs.Grown.{IsGrown}
-use Rattle.pair_closure.specs.Members.{some-inj, no_member, has_first, has_rest, has_cases}
+use Rattle.pair_closure.proofs.Members.{some-inj, no_member, has_first, has_rest, has_cases}
 use Rattle.pair_closure.proofs.Grown.{grown_both, grown_same, grown_none}
 
 -- x stands among the first i

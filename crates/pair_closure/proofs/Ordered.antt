@@ -5,8 +5,9 @@ use Rattle.std.proofs.Common.{inl, inr, arith, ap, ◌∙◌, subst}
 use Rattle.std.proofs.lemmas.List.Sorted.{Contains-permutation, IsPermutation-sym}
 use Rattle.std.proofs.lemmas.Option.{slice_get_within, get_or_from_slice_get}
 use Rattle.std.proofs.lemmas.Bool.{cases_lt}
-use Rattle.pair_closure.specs.Reached.{Has, IsEachOnce, has_contains}
-use Rattle.pair_closure.specs.Members.{has_from_contains}
+use Rattle.pair_closure.specs.Reached.{Has, IsEachOnce}
+use Rattle.pair_closure.proofs.Reached.{has_contains}
+use Rattle.pair_closure.proofs.Members.{has_from_contains}
 use Rattle.pair_closure.specs.Closure.{Pair, AreBelow, rank, AreRising}
 
 -- ---- what a sort leaves

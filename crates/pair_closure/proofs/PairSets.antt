@@ -14,10 +14,10 @@ use Rattle.indexmap.specs.IndexSet.{insert_key}
 use Rattle.indexmap.proofs.CallerLemmas.{Contains-list_any}
 use Rattle.pair_closure.specs.Closure.{Pair}
 use Rattle.pair_closure.specs.Among.{same_pair, is_among, IsPlaceOf}
-use Rattle.pair_closure.specs.Look.{exact, itself, among_in}
+use Rattle.pair_closure.proofs.Look.{exact, itself, among_in}
 use Rattle.pair_closure.specs.Reached.{Has, IsEachOnce}
 use Rattle.pair_closure.specs.Grown.{IsGrown}
-use Rattle.pair_closure.specs.Members.{before_last, last_at, ends_with, has_from_contains}
+use Rattle.pair_closure.proofs.Members.{before_last, last_at, ends_with, has_from_contains}
 
 grown_by : (old : List Pair) (p : Pair) (b : Bool) → list_any (same_pair p) old ≡ b
     → IsGrown old (if b then old else old ++ p ∷ []) (λ q. q ≡ p)

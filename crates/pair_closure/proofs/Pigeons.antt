@@ -6,7 +6,7 @@ use Rattle.std.proofs.Common.{arith, ap, sym, ◌∙◌, eqb, eqb-true, true≢f
 use Rattle.std.proofs.lemmas.Option.{slice_get_within}
 use Rattle.std.proofs.lemmas.Map.Steps.{length-le_from_distinct_below}
 use Rattle.pair_closure.specs.Reached.{Has, IsEachOnce}
-use Rattle.pair_closure.specs.Members.{some-inj}
+use Rattle.pair_closure.proofs.Members.{some-inj}
 
 module _ {A : Type 0} (ys : List A) where
   abbrev AllIn : List A → Type 0

@@ -6,13 +6,14 @@ use Rattle.std.proofs.lemmas.Bool.{cases_lt}
 use Rattle.fx_model.specs.declared.ExprId.{ExprId}
 use Rattle.fx_model.specs.declared.Node.{Node}
 use Rattle.fx_model.specs.declared.Node.TheVariants.{Var, Lit, Neg, Add, Sub, Mul, Div, Abs, Round}
-use Rattle.expr_dag.specs.Nodes.{IsAt, one_node}
+use Rattle.expr_dag.specs.Nodes.{IsAt}
+use Rattle.expr_dag.proofs.Nodes.{one_node}
 use Rattle.pair_closure.specs.Reached.{Has}
 use Rattle.pair_closure.specs.Closure.{Pair, IsRounding}
 use Rattle.pair_closure.specs.Grown.{IsGrown}
 use Rattle.pair_closure.specs.Roundings.{rounding_at}
 use Rattle.pair_closure.proofs.Grown.{grown_none, grown_both, grown_same}
-use Rattle.pair_closure.specs.Members.{no_member, has_first, has_cases}
+use Rattle.pair_closure.proofs.Members.{no_member, has_first, has_cases}
 
 -- a rounding that stands below place i
 abbrev pub IsRoundingBelow : List Node → ℕ → Pair → Type 0

@@ -8,13 +8,13 @@ use Rattle.std.proofs.lemmas.Option.{slice_get_within, slice_get-map}
 use Rattle.std.proofs.lemmas.List.{length-map, append-nil}
 use Rattle.fx_model.specs.declared.ExprId.{ExprId}
 use Rattle.pair_closure.specs.Reached.{Has}
-use Rattle.pair_closure.specs.Members.{some-inj, none_at, no_member, has_first, has_cases}
-use Rattle.pair_closure.specs.Members.{has_either}
-use Rattle.pair_closure.specs.Ids.{id_of, self_same, not_same}
-use Rattle.pair_closure.specs.Put.{same_or_not, set_same, other_back}
+use Rattle.pair_closure.proofs.Members.{some-inj, none_at, no_member, has_first, has_cases}
+use Rattle.pair_closure.proofs.Members.{has_either}
+use Rattle.pair_closure.proofs.Ids.{id_of, self_same, not_same}
+use Rattle.pair_closure.proofs.Put.{same_or_not, set_same, other_back}
 use Rattle.pair_closure.specs.Closure.{Pair, is_same}
 use Rattle.pair_closure.specs.Rows.{seconds, IsIndexed}
-use Rattle.pair_closure.specs.RowLaws.{seconds_out}
+use Rattle.pair_closure.proofs.RowLaws.{seconds_out}
 
 -- ---- second sides
 step : (c : Bool) (y : ExprId) (l r t : List ExprId) → l ≡ r ++ t

@@ -1,7 +1,7 @@
 -- The front of a list.
 use Rattle.std.specs.Prelude.{◌≡◌, ◌<◌, ℕ, zero, suc, List, [], ◌∷◌, Some, take, slice_get}
 use Rattle.std.proofs.Common.{arith}
-use Rattle.pair_closure.specs.Members.{none_at}
+use Rattle.pair_closure.proofs.Members.{none_at}
 
 -- what stands in it stands at the same place of the list
 pub taken_at : {A : Type 0} (xs : List A) (i k : ℕ) (x : A) → slice_get (take i xs) k ≡ Some x

@@ -15,7 +15,7 @@ use Rattle.pair_closure.specs.Closure.{IsExpression, AreManyPairs, AreTooMany, I
 use Rattle.pair_closure.specs.Closure.{IsKnownPair, AreRising, IsFollowed, difference_of}
 use Rattle.pair_closure.specs.Closure.BeginsExpressions.{written, difference}
 use Rattle.pair_closure.specs.Closure.LeadsToExpression.{operands, past_left, past_right}
-use Rattle.pair_closure.specs.Members.{some-inj}
+use Rattle.pair_closure.proofs.Members.{some-inj}
 use Rattle.pair_closure.proofs.Pigeons.{no_longer}
 
 -- more pairs take more expressions

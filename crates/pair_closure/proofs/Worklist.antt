@@ -7,7 +7,7 @@ use Rattle.std.proofs.lemmas.Bool.{cases_lt}
 use Rattle.pair_closure.specs.Reached.{IsReached, Has}
 use Rattle.pair_closure.specs.Reached.IsReached.{begin, lead}
 use Rattle.pair_closure.specs.Grown.{IsGrown}
-use Rattle.pair_closure.specs.Members.{some-inj}
+use Rattle.pair_closure.proofs.Members.{some-inj}
 
 -- Only what is reached is found, all that begins is found, and all that the first k found members
 -- lead to.

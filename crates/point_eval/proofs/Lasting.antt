@@ -6,9 +6,9 @@ use Rattle.std.proofs.Common.{sym, ap, ◌∙◌, subst, append_assoc, Vec, Glob
 use Rattle.fx_model.specs.Expression.{Assignment, value}
 use Rattle.fx_model.specs.declared.Node.{Node}
 use Rattle.facts.specs.declared.hint.HintMark.{HintMark}
-use Rattle.facts.specs.CommonParts.{all_as}
+use Rattle.facts.proofs.CommonParts.{all_as}
 use Rattle.script_cases.specs.Cases.{cases}
-use Rattle.script_cases.specs.Counted.{all_of_cases}
+use Rattle.script_cases.proofs.Counted.{all_of_cases}
 use Rattle.script_claims.specs.declared.claim.Claim.{Claim}
 use Rattle.script_claims.specs.declared.claim.Claim.TheVariants as claim
 use Rattle.script_hints.specs.declared.hint.Constraint.{Constraint}

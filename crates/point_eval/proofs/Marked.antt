@@ -8,7 +8,8 @@ use Rattle.fx_model.specs.declared.Node.{Node}
 use Rattle.facts.specs.declared.hint.HintMark.{HintMark}
 use Rattle.facts.specs.declared.hint.HintMark.TheVariants as mark
 use Rattle.script_cases.specs.Cases.{cases}
-use Rattle.script_cases.specs.Met.{SomeOf, met_in_some_case}
+use Rattle.script_cases.specs.Met.{SomeOf}
+use Rattle.script_cases.proofs.MetLaws.{met_in_some_case}
 use Rattle.script_claims.specs.Meets.{IsTrueAt}
 use Rattle.script_claims.specs.declared.claim.Claim.{Claim}
 use Rattle.script_hints.specs.Meets.{MeetsHint}

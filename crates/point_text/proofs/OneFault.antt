@@ -6,7 +6,7 @@ use Rattle.std.proofs.lemmas.Bool.{cases_lt}
 use Rattle.std.proofs.lemmas.List.{take-take}
 use Rattle.std.proofs.lemmas.Str.{utf8_valid_len-IsValidUpTo}
 use Rattle.script_words.specs.Lex.{LexesOnce}
-use Rattle.script_words.specs.Utf8.{no_both}
+use Rattle.script_words.proofs.Utf8.{no_both}
 use Rattle.script_nodes.specs.Known.{Name}
 use Rattle.point_text.specs.declared.fault.PointKind.{PointKind}
 use Rattle.point_text.specs.declared.fault.PointKind.TheVariants as kind

@@ -6,7 +6,7 @@ use Rattle.std.proofs.lemmas.Option.{none-some, same_Some, slice_get_within}
 use Rattle.std.proofs.lemmas.Bool.{cases_lt}
 use Rattle.fx_model.specs.declared.Literal.{Literal}
 use Rattle.script_words.specs.Lex.{LexesOnce}
-use Rattle.script_words.specs.Utf8.{no_both}
+use Rattle.script_words.proofs.Utf8.{no_both}
 use Rattle.script_nodes.specs.Known.{Name}
 use Rattle.script_nodes.specs.Literals.{ReadsLiterals}
 use Rattle.point_values.specs.Rows.{Row}

@@ -7,7 +7,7 @@ use Rattle.std.proofs.lemmas.Option.{none-some, same_Some}
 use Rattle.script_words.specs.declared.lex.TokenKind.{TokenKind}
 use Rattle.script_words.specs.declared.lex.Token.{Token}
 use Rattle.script_words.specs.Lex.{blank_len, front, Lexes, ends, bad, token}
-use Rattle.script_words.specs.Fronts.{front_some}
+use Rattle.script_words.proofs.Fronts.{front_some}
 
 nothing_ahead : front [] ≡ None
 unfolding front

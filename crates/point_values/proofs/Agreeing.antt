@@ -9,7 +9,7 @@ use Rattle.fx_model.specs.declared.ExprId.{ExprId}
 use Rattle.exact_fractions.specs.Wide.{are_narrow, multiple_numbers}
 use Rattle.facts.specs.declared.hint.HintMark.{HintMark}
 use Rattle.facts.specs.declared.hint.HintMark.TheVariants as mark
-use Rattle.facts.specs.CommonParts.{all_as}
+use Rattle.facts.proofs.CommonParts.{all_as}
 use Rattle.script_claims.specs.declared.claim.Claim.{Claim}
 use Rattle.script_claims.specs.declared.claim.Claim.TheVariants as claim
 use Rattle.script_hints.specs.declared.hint.Constraint.{Constraint}

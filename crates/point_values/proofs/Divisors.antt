@@ -10,7 +10,7 @@ use Rattle.fx_model.specs.Fraction.{Fraction, ◌*ℚ◌, zero_ℚ, mul_comm, ze
 use Rattle.fx_model.specs.Powers.{whole, scaled, scaled-zero, scaled-same, zero-whole}
 use Rattle.fx_model.specs.Expression.{literal_value}
 use Rattle.fx_model.specs.declared.Literal.{Literal}
-use Rattle.interval.specs.Written.{value_down, value_up}
+use Rattle.interval.proofs.Written.{value_down, value_up}
 use Rattle.exact_fractions.specs.declared.exact.Exact.{Exact}
 use Rattle.exact_fractions.specs.Exact.{value_of}
 use Rattle.exact_fractions.specs.Reduced.{over}

@@ -14,7 +14,7 @@ use Rattle.point_values.specs.Numbers.{marked_numbers, wide_from}
 use Rattle.point_values.specs.Truth.{marked_holds}
 use Rattle.point_values.specs.Text.{Bytes, hint_line, lines_from}
 use Rattle.point_values.specs.Evaluation.{pairs}
-use Rattle.point_values.specs.Along.{IsAlong}
+use Rattle.point_values.proofs.Along.{IsAlong}
 use Rattle.point_values.specs.declared.place.Place.TheVariants as place
 
 split_here : {A : Type 0} (xs : List A) (i : ℕ) (x : A) → i < length xs → x ≡ slice_index_or xs i x

@@ -5,3 +5,5 @@ pub mod Agreeing
 pub mod Whole
 pub mod Telling
 pub mod CaseClaims
+pub mod Walk
+pub mod Along

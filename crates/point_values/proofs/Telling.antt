@@ -10,8 +10,8 @@ use Rattle.std.proofs.lemmas.Bool.{eqb-true}
 use Rattle.std.proofs.lemmas.Nat.Gcd.{dvd_refl}
 use Rattle.std.proofs.Math.Nat.{one-dvd}
 use Rattle.fx_model.specs.Fraction.{Fraction, ◌-ℚ◌, ◌*ℚ◌, ◌/ℚ◌, le_ℚ, ◌≤ℚ◌, ◌<ℚ◌, is_zero_ℚ}
-use Rattle.fx_model.specs.Fraction.{is_zero-zero, is_zero_out, is_zero_not, zero_ℚ, one_ℚ, le_refl}
-use Rattle.fx_model.specs.Fraction.{le_antisymm}
+use Rattle.fx_model.specs.Fraction.{is_zero-zero, is_zero_out, zero_ℚ, one_ℚ, le_refl, le_antisymm}
+use Rattle.fx_model.proofs.Fraction.{is_zero_not}
 use Rattle.fx_model.specs.Powers.{whole, two_to, whole-mk, IsMultiple}
 use Rattle.fx_model.specs.Enclosure.{Lies}
 use Rattle.fx_model.specs.Expression.{Assignment, value}
@@ -19,9 +19,10 @@ use Rattle.fx_model.specs.declared.Node.{Node}
 use Rattle.literal_order.specs.declared.written.Written.{Written}
 use Rattle.literal_order.specs.Values.{written_value}
 use Rattle.rounding.specs.Rounded.{units-times, units-scaled}
-use Rattle.exact_fractions.specs.Divisors.{gcd, gcd_of}
+use Rattle.exact_fractions.specs.Divisors.{gcd}
+use Rattle.exact_fractions.proofs.Divisors.{gcd_of}
 use Rattle.exact_fractions.specs.Reduced.{numerator, denominator, over}
-use Rattle.exact_fractions.specs.Lowest.{over-mk, over_parts, denominator-over}
+use Rattle.exact_fractions.proofs.Lowest.{over-mk, over_parts, denominator-over}
 use Rattle.exact_fractions.specs.Exact.{are_equal}
 use Rattle.script_bounds.specs.Bounds.{written_range}
 use Rattle.script_bounds.specs.Sides.{IsUnderWritten, IsOverWritten}

@@ -7,7 +7,8 @@ use Rattle.std.proofs.Math.Seq.{drop-cons, get_or-append_seam}
 use Rattle.std.proofs.lemmas.Bool.{cases_lt}
 use Rattle.fx_model.specs.Fraction.{Fraction}
 use Rattle.fx_model.specs.Expression.{Assignment, IsOrdered, ChildrenBelow, node_value, value}
-use Rattle.fx_model.specs.Expression.{same_children, value_step}
+use Rattle.fx_model.specs.Expression.{same_children}
+use Rattle.fx_model.proofs.Expression.{value_step}
 use Rattle.fx_model.specs.declared.ExprId.{ExprId}
 use Rattle.fx_model.specs.declared.Node.{Node}
 use Rattle.fx_model.specs.declared.Node.TheVariants.{Var, Lit, Neg, Add, Sub, Mul, Div, Abs, Round}
@@ -18,7 +19,8 @@ use Rattle.point_values.specs.Known.{fraction_of, values_of}
 use Rattle.point_values.specs.Numbers.{of_value, of_values, product_numbers, quotient_numbers}
 use Rattle.point_values.specs.Numbers.{node_numbers, wide_from}
 use Rattle.point_values.specs.declared.place.Place.TheVariants as place
-use Rattle.point_values.specs.Walk.{IsWalked, AreKnown}
+use Rattle.point_values.proofs.Walk.{IsWalked}
+use Rattle.point_values.specs.Walk.{AreKnown}
 
 -- ---- a node's numbers are of the values of what it is made of
 same_numbers : (v w : ExprId → Option Fraction) (k : ℕ) (n : Node) → ChildrenBelow k n

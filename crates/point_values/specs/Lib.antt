@@ -6,7 +6,6 @@ pub mod Text
 pub mod Walk
 pub mod Shown
 pub mod Evaluation
-pub mod Along
 pub mod Among
 pub mod Within
 pub mod Told

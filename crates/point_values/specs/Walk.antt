@@ -1,21 +1,11 @@
 -- The values of nodes, one after another.
-use Rattle.std.specs.Prelude.{◌≡◌, ℕ, ◌<◌, List, drop, length, Option}
+use Rattle.std.specs.Prelude.{◌≡◌, ℕ, ◌<◌, List, Option}
 use Rattle.fx_model.specs.Expression.{Assignment, value}
 use Rattle.fx_model.specs.declared.ExprId.{ExprId}
 use Rattle.fx_model.specs.declared.Node.{Node}
 use Rattle.exact_fractions.specs.declared.exact.Exact.{Exact}
 use Rattle.point_values.specs.Known.{values_of}
-use Rattle.point_values.specs.Numbers.{node_numbers, wide_from}
-use Rattle.point_values.specs.declared.place.Place.TheVariants as place
 
 -- The first n expressions have these values.
 abbrev pub AreKnown : List Node → Assignment → List (Option Exact) → ℕ → Type 0
 AreKnown nodes a vs n = (x : ExprId) → x.0 < n → values_of vs x ≡ value nodes a x
-
--- The first n nodes have these values, and none of them has a number that is too wide.
-pub record IsWalked (nodes : List Node) (a : Assignment) (vs : List (Option Exact)) (n : ℕ) :
-    Type 0 where
-  pub count : length vs ≡ n
-  pub known : AreKnown nodes a vs n
-  pub narrow : wide_from place.Node (node_numbers (value nodes a)) n (drop n nodes)
-      ≡ wide_from place.Node (node_numbers (value nodes a)) 0 nodes

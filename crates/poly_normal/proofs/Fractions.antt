@@ -3,8 +3,9 @@ use Rattle.std.specs.Prelude.{◌≡◌, ℕ, ◌+◌}
 use Rattle.std.proofs.Common.{arith, sym, ap, ◌∙◌, zero, suc}
 use Rattle.fx_model.specs.Fraction.{Fraction, ◌+ℚ◌, ◌*ℚ◌, ◌/ℚ◌, inverse_ℚ, neg_ℚ, zero_ℚ, one_ℚ}
 use Rattle.fx_model.specs.Fraction.{add_comm, add_assoc, zero-add, add-neg, mul_comm, mul_assoc}
-use Rattle.fx_model.specs.Fraction.{one-mul, mul-inverse, div-mul, add-zero, mul-one, mul-zero}
-use Rattle.fx_model.specs.Fraction.{add-mul, left_swap, middle_products}
+use Rattle.fx_model.specs.Fraction.{one-mul, mul-inverse}
+use Rattle.fx_model.proofs.Fraction.{div-mul, add-zero, mul-one, mul-zero, add-mul, left_swap}
+use Rattle.fx_model.proofs.Fraction.{middle_products}
 
 -- x + (y + z) = y + (x + z)
 pub add_swap : (x y z : Fraction) → x +ℚ (y +ℚ z) ≡ y +ℚ (x +ℚ z)

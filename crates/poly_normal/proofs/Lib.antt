@@ -17,3 +17,4 @@ pub mod Placed
 pub mod NodeForms
 pub mod Trues
 pub mod Tables
+pub mod PartsLaws

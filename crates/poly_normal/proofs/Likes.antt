@@ -5,7 +5,7 @@ use Rattle.std.proofs.Common.{arith, sym, ap, ◌∙◌, zero, suc, subst}
 use Rattle.std.proofs.lemmas.Int.{ints}
 use Rattle.std.proofs.Math.IntN.{+ℤ_idl, +ℤ_assoc}
 use Rattle.fx_model.specs.Fraction.{Fraction, ◌+ℚ◌, ◌*ℚ◌, zero_ℚ, add_assoc, zero-add, zero-mul}
-use Rattle.fx_model.specs.Fraction.{add-mul}
+use Rattle.fx_model.proofs.Fraction.{add-mul}
 use Rattle.fx_model.specs.Powers.{whole, whole-add, zero-whole}
 use Rattle.poly_normal.specs.Polynomial.{Monomial, same_monomial, Polynomial, coefficient_of}
 use Rattle.poly_normal.specs.Polynomial.{IsEqual, negation}

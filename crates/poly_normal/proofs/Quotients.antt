@@ -10,17 +10,19 @@ use Rattle.std.proofs.lemmas.Int.{ints}
 use Rattle.std.proofs.lemmas.Nat.{div-add-mod'}
 use Rattle.std.proofs.Math.Nat.{mul-pos}
 use Rattle.fx_model.specs.Fraction.{Fraction, ◌+ℚ◌, ◌-ℚ◌, ◌*ℚ◌, ◌/ℚ◌, inverse_ℚ, neg_ℚ, zero_ℚ}
-use Rattle.fx_model.specs.Fraction.{is_zero_ℚ, is_zero_not, ◌≤ℚ◌, le_refl, mul_comm, mul_assoc}
-use Rattle.fx_model.specs.Fraction.{neg-mul, mul-inverse, mul-one, middle_products}
+use Rattle.fx_model.specs.Fraction.{is_zero_ℚ, ◌≤ℚ◌, le_refl, mul_comm, mul_assoc, neg-mul}
+use Rattle.fx_model.specs.Fraction.{mul-inverse}
+use Rattle.fx_model.proofs.Fraction.{is_zero_not, mul-one, middle_products}
 use Rattle.fx_model.specs.Powers.{whole, two_to, whole-mul, whole-le_out, zero-whole, one-whole}
 use Rattle.fx_model.specs.Powers.{two_to-add, two_to-pos}
 use Rattle.fx_model.specs.Expression.{Assignment, ten_to, literal_value, lift₁, lift₂, quotient}
-use Rattle.fx_model.specs.Expression.{node_value, value, value_step, ChildrenBelow, IsOrdered}
+use Rattle.fx_model.specs.Expression.{node_value, value, ChildrenBelow, IsOrdered}
+use Rattle.fx_model.proofs.Expression.{value_step}
 use Rattle.fx_model.specs.declared.Literal.{Literal}
 use Rattle.fx_model.specs.declared.ExprId.{ExprId}
 use Rattle.fx_model.specs.declared.Node.{Node}
 use Rattle.fx_model.specs.declared.Node.TheVariants.{Var, Lit, Neg, Add, Sub, Mul, Div, Abs, Round}
-use Rattle.literal.specs.Tens.{pow_positive}
+use Rattle.literal.proofs.Tens.{pow_positive}
 use Rattle.poly_normal.specs.Polynomial as polynomial
 use Rattle.poly_normal.specs.Form.{Form, atom_form, literal_form, literal_top, literal_bottom}
 use Rattle.poly_normal.specs.Form.{literal_divisor, common_divisor_to, negation_form, sum_form}

@@ -4,8 +4,8 @@ use Rattle.std.specs.Prelude.{map, replicate, refl}
 use Rattle.std.proofs.Common.{arith, sym, ap, ◌∙◌, zero, suc}
 use Rattle.std.proofs.lemmas.Bool.{eqb-true, eq-eqb}
 use Rattle.fx_model.specs.Fraction.{Fraction, ◌+ℚ◌, ◌*ℚ◌, neg_ℚ, zero_ℚ, one_ℚ, add_assoc, zero-add}
-use Rattle.fx_model.specs.Fraction.{one-mul, zero-mul, mul-add, neg-mul, neg-add, add-zero, mul-one}
-use Rattle.fx_model.specs.Fraction.{mul-zero, add-mul, middle_products}
+use Rattle.fx_model.specs.Fraction.{one-mul, zero-mul, mul-add, neg-mul, neg-add}
+use Rattle.fx_model.proofs.Fraction.{add-zero, mul-one, mul-zero, add-mul, middle_products}
 use Rattle.fx_model.specs.Powers.{whole, whole-mul, whole-neg, zero-whole, one-whole}
 use Rattle.poly_normal.specs.Polynomial.{Monomial, atom_monomial, monomial_product, same_monomial}
 use Rattle.poly_normal.specs.Polynomial.{Term, Polynomial, negation, term_product, product, atom}

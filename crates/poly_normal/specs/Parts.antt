@@ -1,7 +1,6 @@
 -- Which nodes are subexpressions, as marks: one for each node.
-use Rattle.std.specs.Prelude.{◌≡◌, ◌⊎◌, ◌↔◌, Bool, true, false, List, slice_index_or, length}
-use Rattle.std.specs.Prelude.{replicate, refl, ℕ, Some, slice_get}
-use Rattle.std.proofs.Common.{zero, suc}
+use Rattle.std.specs.Prelude.{◌≡◌, ◌⊎◌, ◌↔◌, Bool, true, false, List, slice_index_or, length, ℕ}
+use Rattle.std.specs.Prelude.{Some, slice_get}
 use Rattle.fx_model.specs.declared.ExprId.{ExprId}
 use Rattle.fx_model.specs.declared.Node.{Node}
 use Rattle.fx_model.specs.declared.Node.TheVariants.{Var, Lit, Neg, Add, Sub, Mul, Div, Abs, Round}
@@ -40,9 +39,3 @@ is_atom_node (Mul x y) = false
 is_atom_node (Div x y) = false
 is_atom_node (Abs x) = true
 is_atom_node (Round r x) = true
-
--- Where nothing has been marked, nothing is.
-pub unmarked : (n : ℕ) (x : ℕ) → slice_index_or (replicate n false) x false ≡ false
-unmarked zero x = refl
-unmarked (suc n) zero = refl
-unmarked (suc n) (suc x) = unmarked n x

@@ -7,7 +7,8 @@ use Rattle.std.specs.Fmt.{decimal, signed_decimal}
 use Rattle.std.specs.Str.Parse.{digits_value}
 use Rattle.std.proofs.lemmas.Fmt.{decimal_is_IsNumeral_wide, length-decimal-le_wide}
 use Rattle.std.proofs.lemmas.Int.{ints}
-use Rattle.fx_model.specs.Fraction.{neg_ℚ, ◌*ℚ◌, mul-one}
+use Rattle.fx_model.specs.Fraction.{neg_ℚ, ◌*ℚ◌}
+use Rattle.fx_model.proofs.Fraction.{mul-one}
 use Rattle.fx_model.specs.Powers.{scaled, one-whole}
 use Rattle.fx_model.specs.Grid.{scaled-neg}
 use Rattle.fx_model.specs.Expression.{literal_value}
@@ -21,7 +22,7 @@ use Rattle.script_nodes.specs.Literals.{literal_of, LiteralsAreTold, SpelledOnce
 use Rattle.script_nodes.specs.Written.{bound_written}
 use Rattle.fixprog.specs.declared.format.Format.{Format}
 use Rattle.fixprog.specs.Formats.{least, greatest, word_value}
-use Rattle.fixprog.specs.Narrow.{power_below}
+use Rattle.fixprog.proofs.Narrow.{power_below}
 use Rattle.program_truths.proofs.Trees.{word_bound}
 
 -- ---- the spelling of `wbL`

@@ -26,8 +26,8 @@ use Rattle.fixprog.specs.Faults.{Before, is_among, is_literal, is_outside, is_cr
 use Rattle.fixprog.specs.Faults.{fault_if, new_name_faults, weight_faults, format_faults}
 use Rattle.fixprog.specs.Faults.{bound_faults, operand_faults, operation_faults, statement_faults}
 use Rattle.fixprog.specs.Faults.{is_way}
-use Rattle.fixprog.specs.NoFaults.{none_front, none_behind, not_if, no_if, short_by}
-use Rattle.fixprog.specs.Narrow.{narrow, power_below}
+use Rattle.fixprog.proofs.NoFaults.{none_front, none_behind, not_if, no_if, short_by}
+use Rattle.fixprog.proofs.Narrow.{narrow, power_below}
 use Rattle.program_truths.proofs.Trees.{end_bound, word_bound}
 use Rattle.program_truths.proofs.BoundValues.{text_with, word_reading, least_is, greatest_is}
 use Rattle.program_truths.proofs.Own.{apart}

@@ -10,9 +10,10 @@ use Rattle.std.proofs.lemmas.List.Quantifiers.{position-Some}
 use Rattle.fx_model.specs.declared.ExprId.{ExprId}
 use Rattle.fx_model.specs.declared.Node.{Node}
 use Rattle.fx_model.specs.Expression.{Assignment, ChildrenBelow, IsOrdered, node_value, value}
-use Rattle.fx_model.specs.Expression.{value_step, same_children}
+use Rattle.fx_model.specs.Expression.{same_children}
+use Rattle.fx_model.proofs.Expression.{value_step}
 use Rattle.expr_dag.specs.Nodes.{same_node, numbered, placed, with_node}
-use Rattle.expr_dag.specs.Same.{same}
+use Rattle.expr_dag.proofs.Same.{same}
 use Rattle.expr_dag.specs.Extended.{ValuesStay}
 use Rattle.script_nodes.specs.Known.{Known, put}
 

@@ -19,8 +19,8 @@ use Rattle.fixprog.specs.Faults.{operation_faults, statement_faults, faults_from
 use Rattle.fixprog.specs.Faults.{bound_value}
 use Rattle.fixprog.specs.Execution.{Values, step_value, input_values, AreInRange}
 use Rattle.fixprog.specs.Printed.{IsShort}
-use Rattle.fixprog.specs.NoFaults.{none_front, none_behind, not_if, no_if, short_by}
-use Rattle.fixprog.specs.Narrow.{narrow}
+use Rattle.fixprog.proofs.NoFaults.{none_front, none_behind, not_if, no_if, short_by}
+use Rattle.fixprog.proofs.Narrow.{narrow}
 use Rattle.program_truths.proofs.Knowing.{HasValue}
 use Rattle.program_truths.proofs.Doing.{Operands}
 use Rattle.program_truths.proofs.Running.{all_values, IsFine, AreFine}

@@ -23,8 +23,8 @@ use Rattle.fixprog.specs.Grammar.{step, output, statement_words, Program, output
 use Rattle.fixprog.specs.Formats.{format_of, least, greatest}
 use Rattle.fixprog.specs.Faults.{Before, after, new_name_faults, known_name_faults, weight_faults}
 use Rattle.fixprog.specs.Faults.{statement_faults, faults_from, program_faults}
-use Rattle.fixprog.specs.NoFaults.{none_front, none_behind, light}
-use Rattle.fixprog.specs.Narrow.{narrow}
+use Rattle.fixprog.proofs.NoFaults.{none_front, none_behind, light}
+use Rattle.fixprog.proofs.Narrow.{narrow}
 use Rattle.program_truths.proofs.Trees.{end_bound, word_bound, range_prop, place_prop, format_prop}
 use Rattle.program_truths.proofs.Trees.{output_prop, input_props, alone, also, so, and_all}
 use Rattle.program_truths.proofs.Trees.{goals_behind, goals_alone, formula_of, program_formula}

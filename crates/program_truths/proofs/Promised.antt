@@ -3,7 +3,7 @@ use Rattle.std.proofs.Common.{◌≡◌, inl, inr, ℕ, ℤ, List, [], ◌∷◌
 use Rattle.std.proofs.Common.{◌∙◌, subst, arith, append-nil}
 use Rattle.std.specs.List.{AllByRecursion}
 use Rattle.expr_dag.specs.Extended.{ValuesStay}
-use Rattle.facts.specs.CommonParts.{all_from}
+use Rattle.facts.proofs.CommonParts.{all_from}
 use Rattle.script_words.specs.declared.lex.Token.{Token}
 use Rattle.script_words.specs.Quiet.{EndsBeforeQuiet}
 use Rattle.script_shape.specs.Propositions.{Formula}

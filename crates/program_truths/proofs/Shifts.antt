@@ -3,7 +3,8 @@ use Rattle.std.proofs.Common.{◌≡◌, ◌<◌, ◌==◌, ◌&&◌, Bool, true
 use Rattle.std.proofs.Common.{arith, ◌++◌, refl, sym, ap, ◌∙◌}
 use Rattle.std.specs.Prelude.{neg_ℤ}
 use Rattle.std.specs.Fmt.{decimal, digits}
-use Rattle.fx_model.specs.Fraction.{◌*ℚ◌, mul-one, one-mul}
+use Rattle.fx_model.specs.Fraction.{◌*ℚ◌, one-mul}
+use Rattle.fx_model.proofs.Fraction.{mul-one}
 use Rattle.fx_model.specs.Powers.{two_to, scaled, one-whole}
 use Rattle.fx_model.specs.Expression.{literal_value}
 use Rattle.fx_model.specs.declared.Literal.{Literal}

@@ -29,8 +29,8 @@ use Rattle.fixprog.specs.Faults.{faults_from, program_faults, is_way}
 use Rattle.fixprog.specs.Execution.{way_text}
 use Rattle.fixprog.specs.First.{IsAlone, IsAloneWord}
 use Rattle.fixprog.specs.Turned.{script_of}
-use Rattle.fixprog.specs.NoFaults.{none_front, none_behind, not_if, no_if, short_by}
-use Rattle.fixprog.specs.Narrow.{IsNarrow, narrow}
+use Rattle.fixprog.proofs.NoFaults.{none_front, none_behind, not_if, no_if, short_by}
+use Rattle.fixprog.proofs.Narrow.{IsNarrow, narrow}
 use Rattle.program_truths.proofs.Lines.{IsWordText}
 use Rattle.program_truths.proofs.Trees.{tree_of}
 use Rattle.program_truths.proofs.Operations.{IsOperandText, IsOperationText}

@@ -27,7 +27,7 @@ use Rattle.fixprog.specs.Grammar.{Bound as End, Input, Step, Program, outputs}
 use Rattle.fixprog.specs.Formats.{format_of, is_format, is_within, least, greatest, word_value}
 use Rattle.fixprog.specs.Faults.{bound_value}
 use Rattle.fixprog.specs.Execution.{Values, step_value, run_steps, wraps, values}
-use Rattle.fixprog.specs.Narrow.{narrow}
+use Rattle.fixprog.proofs.Narrow.{narrow}
 use Rattle.program_truths.specs.Promise.{subject, hypothesis_names, goal_names}
 use Rattle.program_truths.proofs.Trees.{place_whole, end_bound, word_bound}
 use Rattle.program_truths.proofs.Texts.{both, all_below, below}

@@ -7,9 +7,9 @@ use Rattle.command_runs.specs.Fates.{Left, MayWrite}
 use Rattle.command_runs.specs.Fates.Left.{Kept}
 use Rattle.command_runs.specs.declared.status.Status.{Status}
 use Rattle.command_runs.specs.declared.status.Status.TheVariants as status
-use Rattle.script_texts.specs.Texts.{IsLong, no_script}
+use Rattle.script_texts.proofs.Texts.{IsLong, no_script}
 use Rattle.script_answers.specs.Answers.{IsAnswered, ProvePrints}
-use Rattle.script_answers.specs.Texts.{long_prints}
+use Rattle.script_answers.proofs.Texts.{long_prints}
 use Rattle.prove_command.specs.Command.{IsCertificateOf, MakesFor, TextFate}
 
 -- ---- a text

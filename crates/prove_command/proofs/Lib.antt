@@ -1,3 +1,4 @@
 pub mod Fates
 pub mod Left
 pub mod Runs
+pub mod Follows

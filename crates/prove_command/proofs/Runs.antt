@@ -10,14 +10,15 @@ use Rattle.command_runs.specs.Runs.{Bytes, Told, Run, IsKept, ReadFailed}
 use Rattle.command_runs.specs.Fates.{Left, Leaves, IsTold, Written, Runs, AreTold, IsKeptFile}
 use Rattle.command_runs.specs.Fates.{IsUntouched, MayWrite}
 use Rattle.command_runs.specs.Fates.Left.{Kept}
-use Rattle.command_runs.specs.Ends.{IsOnce, IsStopPutBy, exhausted_runs, or_unread, put_runs}
-use Rattle.command_runs.specs.Ends.{run_by, starved_runs, stop_runs, unread_kept, unread_once}
-use Rattle.command_runs.specs.Ends.{unwritten_runs}
+use Rattle.command_runs.proofs.Ends.{IsOnce, IsStopPutBy, exhausted_runs, or_unread, put_runs}
+use Rattle.command_runs.proofs.Ends.{run_by, starved_runs, stop_runs, unread_kept, unread_once}
+use Rattle.command_runs.proofs.Ends.{unwritten_runs}
 use Rattle.command_runs.specs.declared.status.Status.{Status}
 use Rattle.command_runs.specs.declared.status.Status.TheVariants as status
-use Rattle.script_texts.specs.Texts.{told_text}
+use Rattle.script_texts.proofs.Texts.{told_text}
 use Rattle.script_answers.specs.Answers.{ProvePrints, options_of}
-use Rattle.script_answers.specs.Laws.{TextAnswersAreOne, prints_done}
+use Rattle.script_answers.specs.Laws.{TextAnswersAreOne}
+use Rattle.script_answers.proofs.LawsLaws.{prints_done}
 use Rattle.cert_writer.specs.declared.walk.WriteStop.{WriteStop}
 use Rattle.cert_writer.specs.declared.walk.WriteStop.TheVariants as write_stop
 use Rattle.prove_command.specs.Certified.{HasWriteCause, IsCertified, IsPutBehind, IsStopped}

@@ -14,10 +14,11 @@ use Rattle.fx_model.specs.declared.ExprId.{ExprId}
 use Rattle.fx_model.specs.declared.Node.{Node}
 use Rattle.fx_model.specs.declared.Node.TheVariants.{Var, Lit, Neg, Add, Sub, Mul, Div, Abs, Round}
 use Rattle.expr_dag.specs.Nodes.{IsAt}
-use Rattle.expr_dag.specs.Shapes.{node_at-value}
-use Rattle.facts.specs.Rows.{IsMet, row_by_values}
-use Rattle.facts.specs.Known.{some_out}
-use Rattle.facts.specs.CommonParts.{all_at}
+use Rattle.expr_dag.proofs.Shapes.{node_at-value}
+use Rattle.facts.specs.Rows.{IsMet}
+use Rattle.facts.proofs.Rows.{row_by_values}
+use Rattle.facts.proofs.Known.{some_out}
+use Rattle.facts.proofs.CommonParts.{all_at}
 use Rattle.script_hints.specs.Needs.{need_of}
 use Rattle.script_hints.specs.Meets.{MetSidesAreEqual}
 use Rattle.rewrite_hints.specs.Divisors.{Occurs, IsDivisor, IsMadeOf}

@@ -1,0 +1,16 @@
+pub mod Sums
+pub mod Floor
+pub mod Nearest
+pub mod Monotone
+pub mod Beside
+pub mod Rounded
+pub mod OnGrid
+pub mod Scale
+pub mod Places
+pub mod ErrorLaws
+pub mod Meet
+pub mod Chosen
+pub mod Shifts
+pub mod Outward
+pub mod Largest
+pub mod Enclosed

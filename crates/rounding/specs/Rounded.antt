@@ -1,15 +1,13 @@
 -- Rounded numbers: monotone, multiples, and multiples are left as they are.
 use lib.IntN.{neg_ℤ}
-use Rattle.std.specs.Prelude.{◌≡◌, ℤ, pos, ◌+ℤ◌, ◌*ℤ◌, ◌≤ℤ◌, ◌^◌, refl}
+use Rattle.std.specs.Prelude.{◌≡◌, ℤ, pos, ◌+ℤ◌, refl}
 use Rattle.std.proofs.Common.{arith, sym, ap, ◌∙◌}
 use Rattle.std.proofs.lemmas.Int.{ints}
-use Rattle.fx_model.specs.Fraction.{Fraction, ◌*ℚ◌, ◌≤ℚ◌, mul_assoc, mul_comm, one-mul, times-le}
+use Rattle.fx_model.specs.Fraction.{Fraction, ◌*ℚ◌, mul_assoc, mul_comm, one-mul}
 use Rattle.fx_model.specs.Powers.{whole, two_to, scaled, IsMultiple, two_to-add, two_to-pos}
-use Rattle.fx_model.specs.Powers.{two_to-positive, one-whole, scaled-le, scaled-shift}
-use Rattle.fx_model.specs.Cut.{gap_le}
+use Rattle.fx_model.specs.Powers.{one-whole}
 use Rattle.fx_model.specs.declared.Direction.{Direction}
 use Rattle.fx_model.specs.Rounded.{whole_for, rounded}
-use Rattle.rounding.specs.Monotone.{whole_for-le}
 use Rattle.rounding.specs.Beside.{whole_for-whole}
 
 -- ---- units of 2^l
@@ -38,10 +36,6 @@ pub units-scaled : (l m : ℤ) → units l (scaled m l) ≡ whole m
 units-scaled l m = mul_assoc (whole m) (two_to l) (two_to (neg_ℤ l)) ∙ ap (λ a. whole m *ℚ a)
     (mul_comm (two_to l) (two_to (neg_ℤ l)) ∙ two_to-inverse l) ∙ mul-whole_one (whole m)
 
-pub units-exact : (l m e : ℤ) → units l (scaled m e) ≡ scaled m (e +ℤ neg_ℤ l)
-units-exact l m e = mul_assoc (whole m) (two_to e) (two_to (neg_ℤ l))
-    ∙ ap (λ a. whole m *ℚ a) (sym (two_to-add e (neg_ℤ l)))
-
 -- the definition of a rounded number
 pub rounded-is : (d : Direction) (l : ℤ) (x : Fraction)
     → rounded d l x ≡ scaled (whole_for d (units l x)) l
@@ -49,12 +43,6 @@ unfolding rounded
 rounded-is d l x = refl
 
 -- ---- the three laws
-pub rounded-le : (d : Direction) (l : ℤ) (x y : Fraction) → x ≤ℚ y → rounded d l x ≤ℚ rounded d l y
-unfolding rounded
-rounded-le d l x y h =
-    scaled-le (whole_for d (units l x)) (whole_for d (units l y)) l (whole_for-le d (units l x)
-    (units l y) (times-le (two_to (neg_ℤ l)) x y (two_to-positive (neg_ℤ l)) h))
-
 pub rounded_multiple : (d : Direction) (l : ℤ) (x : Fraction) → IsMultiple l (rounded d l x)
 unfolding rounded
 rounded_multiple d l x = (whole_for d (units l x), refl)
@@ -66,12 +54,3 @@ rounded-scaled d l m =
 
 pub rounded-multiple : (d : Direction) (l : ℤ) (x : Fraction) → IsMultiple l x → rounded d l x ≡ x
 rounded-multiple d l x p = ap (rounded d l) p.1 ∙ rounded-scaled d l p.0 ∙ sym p.1
-
--- a multiple of 2^k is one of 2^l for l at most k
-pub multiple_of_less : (k l : ℤ) (x : Fraction) → l ≤ℤ k → IsMultiple k x → IsMultiple l x
-multiple_of_less k l x h p = let g = gap_le l k h in
-    (p.0 *ℤ pos (2 ^ g.0), p.1 ∙ ap (scaled p.0) g.1 ∙ scaled-shift p.0 l g.0)
-
-pub rounded-finer : (d : Direction) (k l : ℤ) (x : Fraction) → l ≤ℤ k
-    → IsMultiple k x → rounded d l x ≡ x
-rounded-finer d k l x h p = rounded-multiple d l x (multiple_of_less k l x h p)

@@ -4,8 +4,8 @@ use Rattle.std.specs.Prelude.{slice_get, length, refl}
 use Rattle.std.proofs.Common.{inl, inr, arith, ap, sym, ◌∙◌, subst, append_assoc, take_all}
 use Rattle.std.proofs.lemmas.List.{append-nil}
 use Rattle.pair_closure.specs.Reached.{Has, IsEachOnce}
-use Rattle.pair_closure.specs.Members.{some-inj, none_at, no_member, has_left, has_right}
-use Rattle.pair_closure.specs.Members.{has_either, once_nil, once_append}
+use Rattle.pair_closure.proofs.Members.{some-inj, none_at, no_member, has_left, has_right}
+use Rattle.pair_closure.proofs.Members.{has_either, once_nil, once_append}
 use Rattle.facts.specs.declared.instance.Instance.{Instance}
 use Rattle.rule_instances.specs.InOrder.{each_at}
 

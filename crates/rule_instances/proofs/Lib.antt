@@ -9,3 +9,4 @@ pub mod PairsOnce
 pub mod Whole
 pub mod Behind
 pub mod SidesKnown
+pub mod Beside

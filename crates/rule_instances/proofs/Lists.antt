@@ -4,8 +4,8 @@ use Rattle.std.specs.List.{list_any}
 use Rattle.std.proofs.Common.{inl, inr, ap, sym, ◌∙◌, eqb, eq-eqb, true≢false, refl}
 use Rattle.std.proofs.lemmas.Bool.{and_parts, not-true, or_parts}
 use Rattle.pair_closure.specs.Reached.{Has, IsEachOnce}
-use Rattle.pair_closure.specs.Members.{has_cases, has_first, no_member, once_nil, once_cons}
-use Rattle.pair_closure.specs.Members.{once_append}
+use Rattle.pair_closure.proofs.Members.{has_cases, has_first, no_member, once_nil, once_cons}
+use Rattle.pair_closure.proofs.Members.{once_append}
 use Rattle.facts.specs.declared.instance.Instance.{Instance}
 use Rattle.rule_instances.specs.Lists.{given}
 

@@ -6,11 +6,12 @@ use Rattle.std.proofs.lemmas.Bool.{and_parts, not-true}
 use Rattle.fx_model.specs.declared.ExprId.{ExprId}
 use Rattle.fx_model.specs.declared.Node.{Node}
 use Rattle.fx_model.specs.declared.Node.TheVariants.{Sub}
-use Rattle.expr_dag.specs.Nodes.{IsAt, place_of, one_node}
+use Rattle.expr_dag.specs.Nodes.{IsAt, place_of}
+use Rattle.expr_dag.proofs.Nodes.{one_node}
 use Rattle.pair_closure.specs.Reached.{Has, IsEachOnce}
 use Rattle.pair_closure.specs.Closure.{Pair, AreApart, is_same}
-use Rattle.pair_closure.specs.Members.{no_member, has_first, once_nil}
-use Rattle.pair_closure.specs.Ids.{not_same, apart_ids}
+use Rattle.pair_closure.proofs.Members.{no_member, has_first, once_nil}
+use Rattle.pair_closure.proofs.Ids.{not_same, apart_ids}
 use Rattle.facts.specs.declared.fact.Slot.TheVariants as slot
 use Rattle.facts.specs.declared.instance.Instance.{Instance}
 use Rattle.rule_instances.specs.Slots.{rule}

@@ -9,12 +9,13 @@ use Rattle.fx_model.specs.declared.Direction.TheVariants.{Zr, Aw}
 use Rattle.fx_model.specs.declared.Rounding.{Rounding}
 use Rattle.fx_model.specs.declared.Node.{Node}
 use Rattle.fx_model.specs.declared.Node.TheVariants.{Neg, Add, Sub, Mul, Round}
-use Rattle.expr_dag.specs.Nodes.{IsAt, place_of, one_node}
+use Rattle.expr_dag.specs.Nodes.{IsAt, place_of}
+use Rattle.expr_dag.proofs.Nodes.{one_node}
 use Rattle.pair_closure.specs.Reached.{Has, IsListOf, IsEachOnce}
 use Rattle.pair_closure.specs.Closure.{is_same}
-use Rattle.pair_closure.specs.Ids.{same_ids, self_same}
-use Rattle.pair_closure.specs.Members.{no_member, has_cases, has_first, has_all, has_right}
-use Rattle.pair_closure.specs.Members.{has_either, once_cons, once_nil}
+use Rattle.pair_closure.proofs.Ids.{same_ids, self_same}
+use Rattle.pair_closure.proofs.Members.{no_member, has_cases, has_first, has_all, has_right}
+use Rattle.pair_closure.proofs.Members.{has_either, once_cons, once_nil}
 use Rattle.facts.specs.declared.fact.Slot.TheVariants as slot
 use Rattle.facts.specs.declared.instance.Instance.{Instance}
 use Rattle.rule_instances.specs.Slots.{rule}

@@ -6,14 +6,15 @@ use Rattle.std.proofs.lemmas.Bool.{and_parts, and_from}
 use Rattle.fx_model.specs.declared.ExprId.{ExprId}
 use Rattle.fx_model.specs.declared.Node.{Node}
 use Rattle.fx_model.specs.declared.Node.TheVariants.{Neg, Add, Sub, Mul, Div}
-use Rattle.expr_dag.specs.Nodes.{IsAt, place_of, one_node}
+use Rattle.expr_dag.specs.Nodes.{IsAt, place_of}
+use Rattle.expr_dag.proofs.Nodes.{one_node}
 use Rattle.pair_closure.specs.Reached.{Has}
 use Rattle.pair_closure.specs.Closure.{Pair, is_same}
 use Rattle.pair_closure.specs.Among.{is_among}
-use Rattle.pair_closure.specs.Look.{among_out, among_in}
-use Rattle.pair_closure.specs.Ids.{same_ids, apart_ids, self_same, not_same}
-use Rattle.pair_closure.specs.Members.{no_member, has_first, has_all, has_left, has_right}
-use Rattle.pair_closure.specs.Members.{has_either}
+use Rattle.pair_closure.proofs.Look.{among_out, among_in}
+use Rattle.pair_closure.proofs.Ids.{same_ids, apart_ids, self_same, not_same}
+use Rattle.pair_closure.proofs.Members.{no_member, has_first, has_all, has_left, has_right}
+use Rattle.pair_closure.proofs.Members.{has_either}
 use Rattle.facts.specs.declared.fact.Slot.TheVariants as slot
 use Rattle.facts.specs.declared.instance.Instance.{Instance}
 use Rattle.rule_instances.specs.Slots.{rule}

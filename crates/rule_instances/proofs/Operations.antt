@@ -5,11 +5,12 @@ use Rattle.std.proofs.Common.{inl, inr, sym, subst}
 use Rattle.fx_model.specs.declared.ExprId.{ExprId}
 use Rattle.fx_model.specs.declared.Node.{Node}
 use Rattle.fx_model.specs.declared.Node.TheVariants.{Var, Lit, Neg, Add, Sub, Mul, Div, Abs, Round}
-use Rattle.expr_dag.specs.Nodes.{IsAt, one_node}
+use Rattle.expr_dag.specs.Nodes.{IsAt}
+use Rattle.expr_dag.proofs.Nodes.{one_node}
 use Rattle.pair_closure.specs.Reached.{Has, IsListOf, IsEachOnce}
 use Rattle.pair_closure.specs.Closure.{is_same}
-use Rattle.pair_closure.specs.Ids.{same_ids, self_same}
-use Rattle.pair_closure.specs.Members.{no_member, has_all, has_right, has_either, once_nil}
+use Rattle.pair_closure.proofs.Ids.{same_ids, self_same}
+use Rattle.pair_closure.proofs.Members.{no_member, has_all, has_right, has_either, once_nil}
 use Rattle.facts.specs.declared.fact.Slot.TheVariants as slot
 use Rattle.facts.specs.declared.instance.Instance.{Instance}
 use Rattle.rule_instances.specs.Slots.{rule}

@@ -10,8 +10,8 @@ use Rattle.expr_dag.specs.Nodes.{place_of}
 use Rattle.pair_closure.specs.Reached.{Has, IsEachOnce}
 use Rattle.pair_closure.specs.Closure.{Pair, is_same}
 use Rattle.pair_closure.specs.Among.{is_among}
-use Rattle.pair_closure.specs.Ids.{apart_ids}
-use Rattle.pair_closure.specs.Members.{has_all, no_member, has_either, once_nil, once_append}
+use Rattle.pair_closure.proofs.Ids.{apart_ids}
+use Rattle.pair_closure.proofs.Members.{has_all, no_member, has_either, once_nil, once_append}
 use Rattle.facts.specs.declared.fact.Slot.TheVariants as slot
 use Rattle.facts.specs.declared.instance.Instance.{Instance}
 use Rattle.rule_instances.specs.Slots.{rule}

@@ -11,8 +11,8 @@ use Rattle.expr_dag.specs.Nodes.{IsAt, place_of}
 use Rattle.pair_closure.specs.Reached.{Has, IsEachOnce, IsListOf}
 use Rattle.pair_closure.specs.Closure.{Pair, AreKnown}
 use Rattle.pair_closure.specs.Rows.{seconds}
-use Rattle.pair_closure.specs.Members.{no_member, has_all, has_left, has_right, has_either}
-use Rattle.pair_closure.specs.Members.{once_nil, once_cons, once_append}
+use Rattle.pair_closure.proofs.Members.{no_member, has_all, has_left, has_right, has_either}
+use Rattle.pair_closure.proofs.Members.{once_nil, once_cons, once_append}
 use Rattle.pair_closure.specs.Among.{is_among}
 use Rattle.facts.specs.declared.fact.Slot.{Slot}
 use Rattle.facts.specs.declared.fact.Slot.TheVariants as slot

@@ -5,7 +5,7 @@ use Rattle.std.proofs.Common.{inl, inr, arith, ap, sym, ◌∙◌, length-append
 use Rattle.std.proofs.lemmas.List.{take-append-le, drop-append-le, take_all, length-drop}
 use Rattle.std.proofs.Math.Seq.{drop-append_seam}
 use Rattle.std.proofs.lemmas.Option.{slice_get_within, slice_get-get_or}
-use Rattle.pair_closure.specs.Members.{some-inj, none_at, ends_with, last_at}
+use Rattle.pair_closure.proofs.Members.{some-inj, none_at, ends_with, last_at}
 use Rattle.rule_universe.specs.Flat.{cut_from, rows_in, IsFlat}
 
 -- The numbers are those of a list of rows with n elements: the last of them is n.

@@ -10,13 +10,13 @@ use Rattle.std.proofs.lemmas.Option.{slice_get_within, get_or_from_slice_get}
 use Rattle.std.proofs.lemmas.Bool.{cases_lt}
 use Rattle.pair_closure.specs.Reached.{Has, IsEachOnce}
 use Rattle.pair_closure.specs.Closure.{Pair}
-use Rattle.pair_closure.specs.Members.{some-inj, none_at, has_from_contains}
+use Rattle.pair_closure.proofs.Members.{some-inj, none_at, has_from_contains}
 use Rattle.facts.specs.declared.fact.Slot.{Slot}
 use Rattle.facts.specs.declared.instance.Instance.{Instance}
 use Rattle.rule_universe.specs.Places.{IsPlace, place_count}
 use Rattle.rule_universe.specs.Users.{AreUsers}
 use Rattle.rule_universe.specs.Rows.{RowsUpTo, IsAdded, IsPlaceOfOne, AreRows}
-use Rattle.rule_universe.specs.OnePlace.{place_once, slot_once}
+use Rattle.rule_universe.proofs.OnePlace.{place_once, slot_once}
 
 -- ---- rows of Q and rows of R
 pub added_as : (old new : List (List ℕ)) (k : ℕ) (Q R : ℕ → Type 0) → ((p : ℕ) → Q p ↔ R p)

@@ -7,7 +7,7 @@ use Rattle.std.proofs.lemmas.List.{take_all, map-append, append-nil}
 use Rattle.std.proofs.lemmas.List.Elements.{Contains-push_cases}
 use Rattle.std.proofs.lemmas.Option.{slice_get_within}
 use Rattle.pair_closure.specs.Closure.{Pair}
-use Rattle.pair_closure.specs.Members.{none_at, ends_with}
+use Rattle.pair_closure.proofs.Members.{none_at, ends_with}
 use Rattle.facts.specs.declared.fact.Slot.{Slot}
 use Rattle.facts.specs.declared.instance.Instance.{Instance}
 use Rattle.rule_universe.specs.declared.placed.Placed.{Placed}

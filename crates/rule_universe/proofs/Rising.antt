@@ -5,7 +5,7 @@ use Rattle.std.proofs.Common.{inl, inr, arith, ap, sym, ◌∙◌, get_or}
 use Rattle.std.proofs.lemmas.Option.{slice_get_within, slice_get-get_or}
 use Rattle.std.proofs.lemmas.Bool.{cases_lt}
 use Rattle.pair_closure.specs.Reached.{Has}
-use Rattle.pair_closure.specs.Members.{before_last, last_at, ends_with}
+use Rattle.pair_closure.proofs.Members.{before_last, last_at, ends_with}
 use Rattle.rule_universe.specs.Rows.{AreUpTo}
 
 -- all are below k where the last one isn't k

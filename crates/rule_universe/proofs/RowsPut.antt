@@ -6,8 +6,8 @@ use Rattle.std.proofs.Common.{inl, inr, arith, ap, sym, ◌∙◌, subst, length
 use Rattle.std.proofs.lemmas.Option.{slice_get_within, slice_get-get_or, get_or_from_slice_get}
 use Rattle.std.proofs.lemmas.Option.{slice_get-map}
 use Rattle.pair_closure.specs.Reached.{Has}
-use Rattle.pair_closure.specs.Members.{some-inj, none_at}
-use Rattle.pair_closure.specs.Put.{same_or_not, set_same, other_back}
+use Rattle.pair_closure.proofs.Members.{some-inj, none_at}
+use Rattle.pair_closure.proofs.Put.{same_or_not, set_same, other_back}
 use Rattle.rule_universe.specs.Rows.{InRow, AreUpTo, RowsUpTo, IsAdded}
 
 module _ {V : Type 0} (f : V → List ℕ) where

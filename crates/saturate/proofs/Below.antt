@@ -6,9 +6,9 @@ use Rattle.derivation.specs.Lists.{IsLawful}
 use Rattle.derivation.specs.Derivations.{Setting, At, IsClosed}
 use Rattle.derivation.specs.Known.{Piece, IsTableAt}
 use Rattle.derivation.specs.Rounds.{IsSame, IsBestFrom, Improves}
-use Rattle.derivation.specs.Begun.{child_start, child_table}
+use Rattle.derivation.proofs.Begun.{child_start, child_table}
 use Rattle.derivation.specs.Counted.{IsWithinSteps, IsWithinStepsFrom}
-use Rattle.derivation.specs.Counts.{child_heights}
+use Rattle.derivation.proofs.Counts.{child_heights}
 
 module _ (u : Setting) (lawful : IsLawful u.rules) (whole : IsClosed u.instances) (height : ℕ)
     (piece : Piece) (parent copy start : At) (same : IsSame parent copy)

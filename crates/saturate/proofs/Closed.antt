@@ -8,13 +8,14 @@ use Rattle.facts.specs.declared.fact.Fact.TheVariants as fact
 use Rattle.facts.specs.declared.fact.Slot.{Slot}
 use Rattle.facts.specs.declared.fact.Slot.TheVariants as slot
 use Rattle.facts.specs.Order.{slot_of}
-use Rattle.facts.specs.Laws.{IsStronger-trans}
+use Rattle.facts.proofs.Laws.{IsStronger-trans}
 use Rattle.derivation.specs.Derivations.{Setting, At}
 use Rattle.derivation.specs.Rounds.{concluded, IsSame, IsAhead, AllSeen, Grows, InTable, IsBestFrom}
-use Rattle.derivation.specs.Heights.{best_start, best_void}
-use Rattle.derivation.specs.Changes.{agrees_all, true_false}
+use Rattle.derivation.proofs.Heights.{best_start, best_void}
+use Rattle.derivation.proofs.Changes.{agrees_all, true_false}
 use Rattle.derivation.specs.Counts.{IsRisen}
-use Rattle.derivation.specs.Parts.{slot_cases, none_some}
+use Rattle.derivation.specs.Parts.{slot_cases}
+use Rattle.derivation.proofs.Parts.{none_some}
 use Rattle.rule_universe.specs.Places.{IsPlace}
 use Rattle.saturate.specs.declared.kept.Table.{Table}
 use Rattle.saturate.specs.Tables.{fact_at, IsShaped}

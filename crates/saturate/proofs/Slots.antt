@@ -12,7 +12,7 @@ use Rattle.pair_closure.specs.Reached.{IsEachOnce}
 use Rattle.facts.specs.declared.fact.Slot.{Slot}
 use Rattle.facts.specs.declared.fact.Slot.TheVariants as slot
 use Rattle.facts.specs.Order.{is_same}
-use Rattle.facts.specs.CommonParts.{expr_same}
+use Rattle.facts.proofs.CommonParts.{expr_same}
 use Rattle.rule_universe.specs.declared.placed.Placed.{Placed}
 use Rattle.rule_universe.specs.Worlds.{IsSlot}
 use Rattle.rule_universe.specs.Places.{IsPlace}

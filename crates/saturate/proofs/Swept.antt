@@ -14,30 +14,33 @@ use Rattle.facts.specs.declared.fact.Slot.{Slot}
 use Rattle.facts.specs.declared.fact.Slot.TheVariants as slot
 use Rattle.facts.specs.declared.instance.Instance.{Instance}
 use Rattle.facts.specs.Order.{slot_of, IsStronger}
-use Rattle.facts.specs.Laws.{IsStronger-refl, IsStronger-trans}
-use Rattle.facts.specs.Meets.{IsStronger-antisymm}
+use Rattle.facts.proofs.Laws.{IsStronger-refl, IsStronger-trans}
+use Rattle.facts.proofs.Meets.{IsStronger-antisymm}
 use Rattle.facts.specs.Promises.{EachStronger}
 use Rattle.derivation.specs.Lists.{IsLawful, RuleList, IsOnTargetList}
 use Rattle.derivation.specs.Derivations.{Setting, Derives, DeriveEach, given, drawn, met, none}
 use Rattle.derivation.specs.Derivations.{next, At, Beats, IsClosed}
-use Rattle.derivation.specs.Rounds.{IsProper, IsSame, Reads, InTable, Grows, Improves, all_at}
-use Rattle.derivation.specs.Rounds.{concluded, conclusion, IsBestFrom}
-use Rattle.derivation.specs.Changes.{IsUser, IsQuiet, agrees_all, true_false}
-use Rattle.derivation.specs.Heights.{Derives-add}
-use Rattle.derivation.specs.Parts.{some_same, none_some, slot_cases, not_void, beats_weaker}
-use Rattle.derivation.specs.Parts.{beats_meet, conclusion_reads, reads_conclusion}
-use Rattle.derivation.specs.Steps.{kept_cases, improved_stronger, improved_slot, improved_beats}
-use Rattle.derivation.specs.Steps.{improved_grows}
+use Rattle.derivation.specs.Rounds.{IsProper, IsSame, InTable, Grows, Improves, all_at, concluded}
+use Rattle.derivation.specs.Rounds.{conclusion, IsBestFrom}
+use Rattle.derivation.proofs.Rounds.{Reads}
+use Rattle.derivation.specs.Changes.{IsUser, IsQuiet}
+use Rattle.derivation.proofs.Changes.{agrees_all, true_false}
+use Rattle.derivation.proofs.Heights.{Derives-add}
+use Rattle.derivation.proofs.Parts.{some_same, none_some, not_void, beats_weaker, beats_meet}
+use Rattle.derivation.proofs.Parts.{conclusion_reads, reads_conclusion}
+use Rattle.derivation.specs.Parts.{slot_cases}
+use Rattle.derivation.proofs.Steps.{kept_cases, improved_stronger, improved_slot, improved_beats}
+use Rattle.derivation.proofs.Steps.{improved_grows}
 use Rattle.rule_universe.specs.declared.placed.Placed.{Placed}
 use Rattle.rule_universe.specs.Places.{IsPlace, place_count}
 use Rattle.rule_universe.specs.Placed.{slots_of, ArePlaced}
-use Rattle.rule_universe.specs.OnePlace.{place_within, place_once, slot_once}
+use Rattle.rule_universe.proofs.OnePlace.{place_within, place_once, slot_once}
 use Rattle.rule_universe.specs.Worlds.{World}
 use Rattle.saturate.specs.declared.kept.Table.{Table}
 use Rattle.saturate.specs.Tables.{fact_at, IsShaped}
 use Rattle.saturate.specs.Universes.{HasAllPlaces}
 use Rattle.saturate.specs.Closed.{IsClosedUnder}
-use Rattle.saturate.specs.Lists.{get_set_here, get_set_there}
+use Rattle.saturate.proofs.Lists.{get_set_here, get_set_there}
 use Rattle.saturate.specs.Sweeping.{IsSwept, IsSweeping, IsQuietApart, NoneDue}
 use Rattle.saturate.proofs.Places.{fact_at_proper}
 use Rattle.saturate.proofs.Slots.{shaped_room}

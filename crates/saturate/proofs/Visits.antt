@@ -9,16 +9,18 @@ use Rattle.facts.specs.declared.fact.Slot.{Slot}
 use Rattle.facts.specs.declared.fact.Fact.TheVariants as fact
 use Rattle.facts.specs.declared.fact.Slot.TheVariants as slot
 use Rattle.facts.specs.Order.{slot_of, IsStronger, meet_of}
-use Rattle.facts.specs.Laws.{IsStronger-slot, IsStronger-trans}
-use Rattle.facts.specs.Meets.{meet-IsMeet}
+use Rattle.facts.proofs.Laws.{IsStronger-slot, IsStronger-trans}
+use Rattle.facts.proofs.Meets.{meet-IsMeet}
 use Rattle.facts.specs.declared.instance.Instance.{Instance}
-use Rattle.facts.specs.CommonParts.{void_cases}
+use Rattle.facts.proofs.CommonParts.{void_cases}
 use Rattle.derivation.specs.Lists.{RuleList, IsOnTargetList}
 use Rattle.derivation.specs.Derivations.{At}
 use Rattle.derivation.specs.Rounds.{conclusion, Grows, IsKept, Improves}
 use Rattle.derivation.specs.Changes.{IsListed}
-use Rattle.derivation.specs.Counts.{IsRisen, risen_after}
-use Rattle.derivation.specs.Parts.{conclusion_reads, slot_cases, stronger_slot}
+use Rattle.derivation.specs.Counts.{IsRisen}
+use Rattle.derivation.proofs.Counts.{risen_after}
+use Rattle.derivation.proofs.Parts.{conclusion_reads, stronger_slot}
+use Rattle.derivation.specs.Parts.{slot_cases}
 use Rattle.rule_universe.specs.declared.placed.Placed.{Placed}
 use Rattle.rule_universe.specs.Placed.{slots_of}
 use Rattle.saturate.specs.declared.kept.Table.{Table}

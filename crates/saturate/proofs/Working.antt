@@ -11,13 +11,14 @@ use Rattle.facts.specs.declared.fact.Slot.{Slot}
 use Rattle.facts.specs.declared.fact.Slot.TheVariants as slot
 use Rattle.facts.specs.declared.instance.Instance.{Instance}
 use Rattle.facts.specs.Order.{slot_of}
-use Rattle.facts.specs.Laws.{IsStronger-trans}
+use Rattle.facts.proofs.Laws.{IsStronger-trans}
 use Rattle.derivation.specs.Derivations.{Setting, At, Beats}
 use Rattle.derivation.specs.Rounds.{conclusion, IsAhead, IsSame, AllSeen, Improves}
 use Rattle.derivation.specs.Changes.{IsListed}
 use Rattle.derivation.specs.Counts.{IsRisen, AreRisen}
-use Rattle.derivation.specs.Ahead.{ahead_begin, ahead_fewer, ahead_next, ahead_step, ahead_void}
-use Rattle.derivation.specs.Parts.{none_some, slot_cases}
+use Rattle.derivation.proofs.Ahead.{ahead_begin, ahead_fewer, ahead_next, ahead_step, ahead_void}
+use Rattle.derivation.proofs.Parts.{none_some}
+use Rattle.derivation.specs.Parts.{slot_cases}
 use Rattle.rule_universe.specs.declared.placed.Placed.{Placed}
 use Rattle.rule_universe.specs.Placed.{slots_of, IsPlaced}
 use Rattle.rule_universe.specs.Worlds.{World}
@@ -29,7 +30,7 @@ use Rattle.saturate.specs.Closed.{IsClosedUnder, IsMarked}
 use Rattle.saturate.specs.Keeping.{InTurn, IsWhole}
 use Rattle.saturate.specs.Working.{IsKnown, AreKnown, AreReady, AreAtWork, AreGoing, AreGathered}
 use Rattle.saturate.specs.Working.{HasComeTo}
-use Rattle.saturate.specs.Lists.{none_in}
+use Rattle.saturate.proofs.Lists.{none_in}
 use Rattle.saturate.proofs.Places.{fact_at_proper}
 use Rattle.saturate.proofs.Slots.{shaped_room, contains_slot}
 use Rattle.saturate.proofs.Closed.{said_at}

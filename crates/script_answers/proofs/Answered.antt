@@ -12,7 +12,8 @@ use Rattle.case_trees.specs.declared.outcome.CaseOutcome.TheVariants as outcome
 use Rattle.case_trees.specs.declared.outcome.OpenLeaf.{OpenLeaf}
 use Rattle.settler.specs.declared.cases.Case.{Case}
 use Rattle.settler.specs.Answers.{Options, ComesTo, HasTooManyExpressions, IsProved, plan_of}
-use Rattle.settler.specs.Cases.{AreCases, as_many, case_of}
+use Rattle.settler.specs.Cases.{AreCases}
+use Rattle.settler.proofs.CasesLaws.{as_many, case_of}
 use Rattle.settler.specs.Tight.{ProvedLinesAreTight}
 use Rattle.settler.specs.Held.{ProvedHolds}
 use Rattle.command_runs.specs.Runs.{Bytes}

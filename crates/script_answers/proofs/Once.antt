@@ -6,7 +6,8 @@ use Rattle.script_judge.specs.First.{FirstsAreUnique}
 use Rattle.script_claims.specs.declared.claim.Claim.{Claim}
 use Rattle.script_grammar.specs.Spells.{View, Spells, SpellsOnce, NeverBoth}
 use Rattle.script_grammar.specs.Cases.{cases_of}
-use Rattle.rewrite_hints.specs.Marks.{AreMarks, marks_are_one}
+use Rattle.rewrite_hints.specs.Marks.{AreMarks}
+use Rattle.rewrite_hints.proofs.MarksLaws.{marks_are_one}
 use Rattle.bisect.specs.declared.outcome.Leaf.{Leaf}
 use Rattle.bisect.specs.Gathered.{lines_of}
 use Rattle.case_trees.specs.declared.outcome.OpenLeaf.{OpenLeaf}
@@ -22,7 +23,7 @@ use Rattle.command_runs.specs.declared.status.Status.TheVariants as status
 use Rattle.report.specs.Lines.{expressions_text, boxes_text}
 use Rattle.report.specs.Proved.{answer_text, made_text}
 use Rattle.report.specs.Unproved.{unproved_text}
-use Rattle.script_texts.specs.Texts.{refused_once}
+use Rattle.script_texts.proofs.Texts.{refused_once}
 use Rattle.script_answers.specs.Answers.{ProvePrints, IsAnswered, IsProvedText, IsMadeAnswered}
 use Rattle.script_answers.specs.Answers.{MadePrints, made_options, first_line}
 use Rattle.script_answers.specs.Laws.{TextAnswersAreOne, MadeAnswersAreOne}

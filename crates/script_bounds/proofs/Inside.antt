@@ -10,7 +10,8 @@ use Rattle.fx_model.specs.Enclosure.{end_up_to, end_from}
 use Rattle.dyadic.specs.declared.number.End.{End}
 use Rattle.dyadic.specs.declared.number.End.TheVariants as end
 use Rattle.dyadic.specs.Ends.{bound_of}
-use Rattle.dyadic.specs.Values.{value_of, on_grid}
+use Rattle.dyadic.specs.Values.{value_of}
+use Rattle.dyadic.proofs.Values.{on_grid}
 use Rattle.interval.specs.declared.interval.Interval.{Interval}
 use Rattle.interval.specs.Intervals.{range_of}
 use Rattle.interval.specs.Ends.{AreEnds, range_from}

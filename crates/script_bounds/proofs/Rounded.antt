@@ -3,8 +3,9 @@ use Rattle.std.specs.Prelude.{◌≡◌, Some, refl}
 use Rattle.std.proofs.Common.{sym, subst, ap, ◌∙◌}
 use Rattle.fx_model.specs.Fraction.{Fraction, ◌≤ℚ◌, le_refl, le_antisymm}
 use Rattle.fx_model.specs.Grid.{Bound, Below, At, Above, IsDown, IsUp}
-use Rattle.fx_model.specs.Enclosure.{Range, Lies, IsEnclosure, IsOrdered, enclosure_unique}
-use Rattle.fx_model.specs.Enclosure.{member_of, enclosure_ordered}
+use Rattle.fx_model.specs.Enclosure.{Range, Lies, IsEnclosure, IsOrdered, member_of}
+use Rattle.fx_model.specs.Enclosure.{enclosure_ordered}
+use Rattle.fx_model.proofs.Enclosure.{enclosure_unique}
 use Rattle.grid_words.specs.Nearest.{down, up}
 use Rattle.grid_words.specs.Outward as grid
 use Rattle.grid_words.specs.Outward.{outward, outward_is, outward_exact}
@@ -15,7 +16,7 @@ use Rattle.interval.specs.Literals.{Alone}
 use Rattle.interval.specs.Ends.{AreEnds}
 use Rattle.interval.specs.Results.{point_of, point_of-is}
 use Rattle.interval.specs.Meets.{interval_from-some}
-use Rattle.interval.specs.Members.{alone_down, alone_up}
+use Rattle.interval.proofs.Members.{alone_down, alone_up}
 use Rattle.script_bounds.specs.Bounds.{down_end, up_end, outward_of}
 
 abbrev between : Bound → Bound → Range

@@ -6,7 +6,7 @@ use Rattle.std.proofs.Common.{ap, sym, ◌∙◌, arith, subst}
 use Rattle.std.proofs.Math.Nat.{mul-div_cancel_left, mod-lt, div-lt_iff_lt-mul}
 use Rattle.std.proofs.lemmas.Option.{slice_get-get_or}
 use Rattle.script_cases.specs.Cases.{cases, case_count}
-use Rattle.script_cases.specs.Counted.{cases_are_counted}
+use Rattle.script_cases.proofs.Counted.{cases_are_counted}
 use Rattle.script_cases.specs.Choice.{choice, left_by, AreLeft}
 use Rattle.script_cases.specs.Gaps.{gaps}
 use Rattle.script_cases.specs.Marks.{pieces, AreMarks}

@@ -5,3 +5,7 @@ pub mod Taken
 pub mod Steps
 pub mod Chosen
 pub mod Counts
+pub mod Lists
+pub mod MetLaws
+pub mod Counted
+pub mod Mapped

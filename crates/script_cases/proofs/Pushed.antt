@@ -7,7 +7,7 @@ use Rattle.script_cases.specs.Parts.{Parts, with_item, behind_or, behind_arrow}
 use Rattle.script_cases.specs.Marks.{pieces, left_over, parts_by, IsFilled, AreMarks}
 use Rattle.script_cases.proofs.Pieces.{pieces_more, left_over_more, pieces_end, left_over_end}
 use Rattle.script_cases.proofs.Pieces.{length_pieces, pieces_within}
-use Rattle.script_cases.specs.Lists.{all_joined, all_as}
+use Rattle.script_cases.proofs.Lists.{all_joined, all_as}
 
 module _ {X : Type 0} (items : List X) (ends parts : List ℕ) (m : AreMarks items ends parts) where
   abbrev of_pieces : List X → List X → List (List X) → Parts X

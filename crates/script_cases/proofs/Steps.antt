@@ -6,7 +6,7 @@ use Rattle.std.proofs.Common.{ap, sym, ◌∙◌, arith, subst, append_assoc, ap
 use Rattle.std.proofs.Math.Nat.{mul-div_cancel_left}
 use Rattle.std.proofs.lemmas.Option.{slice_get-get_or}
 use Rattle.script_cases.specs.Cases.{cases}
-use Rattle.script_cases.specs.Counted.{cases_are_counted}
+use Rattle.script_cases.proofs.Counted.{cases_are_counted}
 use Rattle.script_cases.specs.Gaps.{gaps, AreRising}
 use Rattle.script_cases.specs.Marks.{pieces}
 use Rattle.script_cases.proofs.Pieces.{pieces_within}

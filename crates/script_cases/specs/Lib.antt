@@ -1,8 +1,6 @@
-pub mod Lists
 pub mod Cases
 pub mod Parts
 pub mod Met
-pub mod Counted
 pub mod Gaps
 pub mod Marks
 pub mod Choice

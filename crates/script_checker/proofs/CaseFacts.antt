@@ -7,8 +7,9 @@ use Rattle.fx_model.specs.declared.Node.{Node}
 use Rattle.facts.specs.declared.fact.Fact.{Fact}
 use Rattle.facts.specs.Holds.{Holds}
 use Rattle.facts.specs.Order.{slot_of}
-use Rattle.script_cases.specs.Counted.{all_of_cases}
-use Rattle.script_cases.specs.Met.{SomeOf, met_in_some_case}
+use Rattle.script_cases.proofs.Counted.{all_of_cases}
+use Rattle.script_cases.specs.Met.{SomeOf}
+use Rattle.script_cases.proofs.MetLaws.{met_in_some_case}
 use Rattle.script_claims.specs.declared.claim.Claim.{Claim}
 use Rattle.script_claims.specs.Meets.{IsTrueAt}
 use Rattle.script_claims.specs.Facts.{facts_of}

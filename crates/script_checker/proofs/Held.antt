@@ -10,14 +10,15 @@ use Rattle.facts.specs.declared.fact.Fact.{Fact}
 use Rattle.facts.specs.declared.hint.HintRow.{HintRow}
 use Rattle.facts.specs.Holds.{Holds}
 use Rattle.facts.specs.Order.{slot_of}
-use Rattle.facts.specs.CommonParts.{all_at}
+use Rattle.facts.proofs.CommonParts.{all_at}
 use Rattle.goals.specs.declared.goal.Goal.{Goal}
 use Rattle.goals.specs.declared.line.Line.{Line}
 use Rattle.goals.specs.Holds.{LineHolds}
 use Rattle.theorem_list.specs.Promises.{RowsAreTrue}
 use Rattle.script_claims.specs.declared.claim.Claim.{Claim}
-use Rattle.script_claims.specs.Facts.{hypothesis_fact, want_of, facts_all, goal_of, facts_of}
+use Rattle.script_claims.specs.Facts.{hypothesis_fact, want_of, goal_of, facts_of}
 use Rattle.script_claims.specs.Facts.{slot_of as slot_of_claim}
+use Rattle.script_claims.proofs.Facts.{facts_all}
 use Rattle.script_claims.specs.Meets.{IsTrueAt}
 use Rattle.script_hints.specs.Meets.{MeetsHint}
 use Rattle.script_grammar.specs.Spells.{View}

@@ -19,14 +19,15 @@ use Rattle.facts.specs.Order.{slot_of}
 use Rattle.facts.specs.Parts.{error_of_part}
 use Rattle.facts.specs.Conclusions.{bnd_of, fix_of}
 use Rattle.facts.specs.Places.{place_from}
-use Rattle.facts.specs.CommonParts.{stands, all_from, all_at}
+use Rattle.facts.proofs.CommonParts.{stands, all_from, all_at}
 use Rattle.goals.specs.declared.goal.Goal.{Goal}
 use Rattle.script_bounds.specs.Bounds.{written_range, outward_of}
 use Rattle.script_claims.specs.declared.claim.Claim.{Claim}
 use Rattle.script_claims.specs.declared.claim.Claim.TheVariants.{Bounded, Asked, Relative}
 use Rattle.script_claims.specs.declared.claim.Claim.TheVariants.{RelativeAsked, Multiple, Above}
 use Rattle.script_claims.specs.declared.claim.Claim.TheVariants.{Below}
-use Rattle.script_claims.specs.Facts.{hypothesis_fact, facts_all, goal_of, facts_of}
+use Rattle.script_claims.specs.Facts.{hypothesis_fact, goal_of, facts_of}
+use Rattle.script_claims.proofs.Facts.{facts_all}
 use Rattle.script_hints.specs.declared.hint.Constraint.{Constraint}
 use Rattle.script_hints.specs.declared.hint.Constraint.TheVariants as constraint
 use Rattle.script_hints.specs.declared.hint.Hint.{Hint}

@@ -5,7 +5,8 @@ use Rattle.std.proofs.lemmas.List.{length-map}
 use Rattle.script_claims.specs.Facts.{goal_of}
 use Rattle.node_counts.specs.Few.{HasFewHints}
 use Rattle.script_grammar.specs.Spells.{View}
-use Rattle.rewrite_hints.specs.Marks.{AreMarks, marks_are_one, rows_are_one}
+use Rattle.rewrite_hints.specs.Marks.{AreMarks}
+use Rattle.rewrite_hints.proofs.MarksLaws.{marks_are_one, rows_are_one}
 use Rattle.cert_bytes.specs.Reading.{Cursor}
 use Rattle.cert_checker.specs.declared.fault.CheckStop.{CheckStop}
 use Rattle.cert_checker.specs.declared.fault.CheckStop.TheVariants.{Cert, Check, Failed}

@@ -9,7 +9,7 @@ use Rattle.interval.specs.Intervals.{range_of}
 use Rattle.facts.specs.declared.fact.Fact.{Fact}
 use Rattle.facts.specs.declared.fact.Fact.TheVariants as fact
 use Rattle.facts.specs.Holds.{Holds, IsRelated}
-use Rattle.facts.specs.Held.{some-and, related-wider}
+use Rattle.facts.proofs.Held.{some-and, related-wider}
 use Rattle.facts.specs.Order.{slot_of as slot_of_fact}
 use Rattle.goals.specs.declared.goal.Want.{Want}
 use Rattle.goals.specs.declared.goal.Want.TheVariants.{Ask, Inside}

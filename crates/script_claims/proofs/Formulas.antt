@@ -16,7 +16,7 @@ use Rattle.script_shape.specs.Propositions.{Formula, single, and, or, implies}
 use Rattle.script_shape.specs.Roles.{Leaf, at, special_leaves, whole_leaves, bound_leaves}
 use Rattle.script_shape.specs.Roles.{expr_leaves, range_leaves, prop_leaves, stated_leaves}
 use Rattle.script_shape.specs.Roles.{formula_leaves}
-use Rattle.script_shape.specs.Inner.{EachRole, IsInner, expr_inner}
+use Rattle.script_shape.proofs.Inner.{EachRole, IsInner, expr_inner}
 use Rattle.script_nodes.specs.Known.{Known, PlacedNode}
 use Rattle.script_nodes.specs.Values.{expr_value}
 use Rattle.script_nodes.specs.Waits.{Reading, waiting, expr_done, parted as comma_parted, read}

@@ -21,10 +21,10 @@ use Rattle.facts.specs.RelativeConclusions.{rel_of}
 use Rattle.facts.specs.declared.fact.Fact.TheVariants as fact
 use Rattle.facts.specs.Parts.{error_from-some, error_from_out, error_of_part}
 use Rattle.facts.specs.Ranges.{IsBelow}
-use Rattle.facts.specs.CommonParts.{some-inj}
+use Rattle.facts.proofs.CommonParts.{some-inj}
 use Rattle.facts.specs.Conclusions.{bnd_of, fix_of}
 use Rattle.facts.specs.Holds.{IsRelated, Holds}
-use Rattle.facts.specs.Held.{some-and}
+use Rattle.facts.proofs.Held.{some-and}
 use Rattle.facts.specs.Places.{place_from, place_from-some, place_from_out}
 use Rattle.script_bounds.specs.Bounds.{down_end, up_end, written_range, outward_of}
 use Rattle.script_claims.specs.declared.claim.Claim.{Claim}

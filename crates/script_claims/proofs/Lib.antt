@@ -4,3 +4,4 @@ pub mod Formulas
 pub mod NormalParts
 pub mod Grows
 pub mod FormulaParts
+pub mod Facts

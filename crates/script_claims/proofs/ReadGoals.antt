@@ -8,7 +8,7 @@ use Rattle.fx_model.specs.declared.Node.{Node}
 use Rattle.interval.specs.declared.interval.Interval.{Interval}
 use Rattle.interval.specs.Intervals.{range_of}
 use Rattle.facts.specs.Holds.{AreZero, IsRelated}
-use Rattle.facts.specs.Held.{some-and}
+use Rattle.facts.proofs.Held.{some-and}
 use Rattle.goals.specs.declared.goal.Want.TheVariants.{Inside}
 use Rattle.goals.specs.Lies.{LiesAt, AreZeroAt}
 use Rattle.script_bounds.specs.Bounds.{written_range, inward_of}

@@ -4,7 +4,7 @@ use Rattle.std.specs.List.{slice_get, AllByRecursion}
 use Rattle.std.proofs.Common.{subst, Result, Ok, Err, IfOk}
 use Rattle.std.proofs.lemmas.List.Elements.{All-from_recursion, recursion_from_All}
 use Rattle.script_cases.specs.Cases.{cases, all_items}
-use Rattle.script_cases.specs.Counted.{all_of_cases}
+use Rattle.script_cases.proofs.Counted.{all_of_cases}
 use Rattle.script_claims.specs.declared.claim.Claim.{Claim}
 
 one_of : {A : Type 0} (P : A → Type 0) (xs : List A) (n : ℕ) (x : A) → AllByRecursion P xs

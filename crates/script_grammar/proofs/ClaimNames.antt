@@ -3,11 +3,11 @@ use Rattle.std.specs.Prelude.{ℕ, ◌≤◌, List, Some, None}
 use Rattle.std.specs.List.{AllByRecursion}
 use Rattle.std.proofs.Common.{arith}
 use Rattle.fx_model.specs.declared.ExprId.{ExprId}
-use Rattle.facts.specs.CommonParts.{all_as}
+use Rattle.facts.proofs.CommonParts.{all_as}
 use Rattle.script_shape.specs.Propositions.{Range, asked, between, Prop, lies_in, relative_in}
 use Rattle.script_shape.specs.Propositions.{at_most, at_least, multiple, Stated, affirmed, denied}
 use Rattle.script_shape.specs.Propositions.{Formula, single, and, or, implies}
-use Rattle.script_cases.specs.Lists.{all_joined}
+use Rattle.script_cases.proofs.Lists.{all_joined}
 use Rattle.script_nodes.specs.Known.{Known, PlacedNode}
 use Rattle.script_nodes.specs.Values.{expr_value}
 use Rattle.script_nodes.specs.Growth.{node_count}

@@ -18,7 +18,7 @@ use Rattle.script_nodes.specs.Values.{atom_value}
 use Rattle.script_nodes.specs.Definitions.{name_text, rounding_by, definition_value}
 use Rattle.script_nodes.specs.Growth.{node_count}
 use Rattle.script_nodes.specs.Sound.{ValuesFit}
-use Rattle.script_nodes.specs.Kept.{put_grows, values_fit_more, value_among, value_joins}
+use Rattle.script_nodes.proofs.Kept.{put_grows, values_fit_more, value_among, value_joins}
 
 -- each name's value is a node
 abbrev pub Fits : Known → Type 0

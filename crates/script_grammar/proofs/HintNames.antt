@@ -3,13 +3,13 @@ use Rattle.std.specs.Prelude.{ℕ, ◌≤◌, List, [], ◌∷◌, ◌++◌, Non
 use Rattle.std.specs.List.{AllByRecursion, list_any}
 use Rattle.std.proofs.Common.{arith}
 use Rattle.fx_model.specs.declared.ExprId.{ExprId}
-use Rattle.facts.specs.CommonParts.{all_as}
+use Rattle.facts.proofs.CommonParts.{all_as}
 use Rattle.script_shape.specs.Expressions.{AnyName, Expr}
 use Rattle.script_shape.specs.Hints.{Need, nonzero, below, not_above, above, not_below, NeedList}
 use Rattle.script_shape.specs.Hints.{last_need, more_needs, Needs, always, provided, CutForm, Names}
 use Rattle.script_shape.specs.Hints.{last_name, more_names, Halving, halved_by, with_goal, Hint}
 use Rattle.script_shape.specs.Hints.{rewrite, like, split, halving, Hints, no_hint, hint}
-use Rattle.script_cases.specs.Lists.{all_joined}
+use Rattle.script_cases.proofs.Lists.{all_joined}
 use Rattle.script_nodes.specs.Known.{Known, named}
 use Rattle.script_nodes.specs.Values.{expr_value}
 use Rattle.script_nodes.specs.Growth.{node_count}

@@ -30,7 +30,7 @@ use Rattle.script_words.specs.Lex.{blank_len, word_kind, sign_token, front, Lexe
 use Rattle.script_words.specs.Words.{Word, name, rounding, literal}
 use Rattle.script_words.specs.Named.{Naming, naming_after, defined_by, spelled_of, kind_word}
 use Rattle.script_words.specs.Named.{token_word, words_from}
-use Rattle.script_words.specs.Fronts.{len_in}
+use Rattle.script_words.proofs.Fronts.{len_in}
 
 -- ---- digits
 

@@ -9,8 +9,8 @@ use Rattle.script_cases.specs.Cases.{all_items}
 use Rattle.goal_spans.specs.Reading.{spans_read}
 use Rattle.script_judge.specs.declared.refusal.Refusal.{Refusal}
 use Rattle.script_judge.specs.Reading.{Reading, IsReadingOf, fault}
-use Rattle.script_judge.specs.First.{IsFirstRefusal, unread, read, refusal_of, second_none}
-use Rattle.script_judge.specs.First.{none_found}
+use Rattle.script_judge.specs.First.{IsFirstRefusal, unread, read, refusal_of}
+use Rattle.script_judge.proofs.FirstLaws.{second_none, none_found}
 use Rattle.script_judge.specs.Judge.{Judged, nothing_seen}
 use Rattle.script_nodes.specs.Known.{Known, nothing_known}
 use Rattle.script_nodes.specs.Definitions.{definition_value}

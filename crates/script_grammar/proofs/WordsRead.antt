@@ -18,9 +18,9 @@ use Rattle.script_shape.specs.Roles.{Leaf, at, name_leaves, special_leaves, whol
 use Rattle.script_shape.specs.Roles.{bound_leaves, operator_leaves, expr_leaves, range_leaves}
 use Rattle.script_shape.specs.Roles.{prop_leaves, stated_leaves, formula_leaves, hints_leaves}
 use Rattle.script_shape.specs.Roles.{how_leaves, definition_leaves, script_leaves}
-use Rattle.script_shape.specs.Inner.{EachRole, each_of_both, each_as, IsInner, name_roles}
-use Rattle.script_shape.specs.Inner.{special_roles, bound_roles, whole_inner, operator_roles}
-use Rattle.script_shape.specs.Inner.{expr_inner}
+use Rattle.script_shape.proofs.Inner.{EachRole, each_of_both, each_as, IsInner, name_roles}
+use Rattle.script_shape.proofs.Inner.{special_roles, bound_roles, whole_inner, operator_roles}
+use Rattle.script_shape.proofs.Inner.{expr_inner}
 use Rattle.script_nodes.specs.Known.{Known, nothing_known}
 use Rattle.script_nodes.specs.Definitions.{definition_value}
 use Rattle.script_nodes.specs.Defining.{Defining, between, define_word, define_all, opens_formula}

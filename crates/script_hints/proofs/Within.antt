@@ -6,7 +6,7 @@ use Rattle.script_shape.specs.declared.due.Due.{Due}
 use Rattle.script_shape.specs.declared.due.Due.TheVariants as d
 use Rattle.script_shape.specs.Expressions.{Expr}
 use Rattle.script_shape.specs.Roles.{Leaf, at, expr_leaves}
-use Rattle.script_shape.specs.Inner.{EachRole, IsInner, expr_inner}
+use Rattle.script_shape.proofs.Inner.{EachRole, IsInner, expr_inner}
 use Rattle.script_nodes.specs.Known.{Known}
 use Rattle.script_nodes.specs.Values.{expr_value}
 use Rattle.script_nodes.specs.Waits.{Reading, expr_done, read, read_all}

@@ -9,8 +9,9 @@ use Rattle.std.proofs.Math.Seq.{take-length}
 use Rattle.std.proofs.lemmas.List.{length-map}
 use Rattle.script_cases.specs.Cases.{cases, case_count}
 use Rattle.script_cases.specs.Parts.{Parts}
-use Rattle.script_cases.specs.Counted.{cases_are_counted}
-use Rattle.script_cases.specs.Mapped.{map_parts, cases_mapped}
+use Rattle.script_cases.proofs.Counted.{cases_are_counted}
+use Rattle.script_cases.specs.Mapped.{map_parts}
+use Rattle.script_cases.proofs.Mapped.{cases_mapped}
 use Rattle.script_judge.specs.declared.splits.SplitRange.{SplitRange as CodeRange}
 use Rattle.script_judge.specs.declared.splits.Ends.{Ends as CodeEnds}
 use Rattle.script_judge.specs.Names.{Name}

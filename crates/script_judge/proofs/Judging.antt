@@ -18,12 +18,12 @@ use Rattle.script_judge.specs.Names.{split_name}
 use Rattle.script_judge.specs.Bounds.{is_bad_bound}
 use Rattle.script_judge.specs.Splits.{SplitsSeen, ends_between, is_rangeless, is_bad_point}
 use Rattle.script_judge.specs.SplitViews.{splits_seen}
-use Rattle.script_judge.specs.FewCases.{still_few}
+use Rattle.script_judge.proofs.FewCases.{still_few}
 use Rattle.script_judge.specs.Numbers.{Notes, Tells, has_no_pieces, is_past_lsb, is_past_pieces}
 use Rattle.script_judge.specs.Judge.{Seen, nothing_seen, seen_after, arrow_count, is_on_wrong_side}
 use Rattle.script_judge.specs.Judge.{form_kind, form_refusal, limit_kind, is_past_cases}
 use Rattle.script_judge.specs.Judge.{limit_refusal, or_else, refusal_at, Judged, refused, passed}
-use Rattle.script_judge.specs.Judge.{fails}
+use Rattle.script_judge.proofs.JudgeLaws.{fails}
 use Rattle.script_judge.specs.Sides.{is_arrow, has_arrow}
 use Rattle.script_judge.specs.Views.{IsSeen}
 

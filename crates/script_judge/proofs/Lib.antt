@@ -7,3 +7,7 @@ pub mod Unique
 pub mod Whole
 pub mod CaseRanges
 pub mod LastLeaf
+pub mod FaultLaws
+pub mod JudgeLaws
+pub mod FirstLaws
+pub mod FewCases

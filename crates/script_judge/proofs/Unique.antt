@@ -6,7 +6,7 @@ use Rattle.fx_model.specs.Fraction.{Fraction}
 use Rattle.script_words.specs.Lex.{LexesOnce}
 use Rattle.script_words.specs.Words.{Word}
 use Rattle.script_words.specs.Named.{words_of}
-use Rattle.script_words.specs.Utf8.{no_both}
+use Rattle.script_words.proofs.Utf8.{no_both}
 use Rattle.script_shape.specs.declared.due.Due.{Due}
 use Rattle.script_shape.specs.Shape.{start}
 use Rattle.script_shape.specs.Roles.{Leaf}

@@ -15,8 +15,6 @@ use Rattle.script_shape.specs.Roles.{Leaf}
 use Rattle.script_judge.specs.declared.refusal.RefusalKind.TheVariants as kind
 use Rattle.script_judge.specs.declared.fault.Fault.{Fault}
 
--- ---- words
-
 -- a reserved word
 abbrev pub is_reserved : Symbol → Bool
 is_reserved s.In = true
@@ -41,11 +39,6 @@ is_foreign (sign s.Float) = true
 is_foreign (sign s.Sqrt) = true
 is_foreign _ = false
 
--- a name that isn't an operator's
-abbrev pub is_plain : Option Word → Bool
-is_plain (Some (name k text)) = true
-is_plain _ = false
-
 -- a name that isn't an operator's stands before `(`
 abbrev pub is_unknown_call : Option Word → Option Word → Bool
 is_unknown_call (Some (name k text)) (Some (sign s.OpenParen)) = true
@@ -55,8 +48,6 @@ is_unknown_call _ _ = false
 abbrev pub is_equal : Option Word → Bool
 is_equal (Some (sign s.Equal)) = true
 is_equal _ = false
-
--- ---- what is due behind some words
 
 -- the name of a direction, and not any name
 abbrev pub is_direction_due : List Word → Bool
@@ -74,8 +65,6 @@ is_operator_due before =
     may_follow before (class.Sign s.Fixed) && not (may_follow before (class.Sign s.Equal))
     && not (may_follow before (class.Name spelled.Plain))
 
--- ---- names with a value
-
 -- a definition begins with this name, which gets a value
 abbrev pub gives_value : List ℕ → Due → Word → Bool
 gives_value text d.Script (name k found) = bytes_eq found text
@@ -88,8 +77,6 @@ has_value text leaves = list_any (λ l. gives_value text l.role l.word) leaves
 -- a definition before the one whose name is the last word
 abbrev pub has_earlier_value : List ℕ → List Leaf → Bool
 has_earlier_value text leaves = has_value text (take (length leaves - 1) leaves)
-
--- ---- the word
 
 -- a name with no meaning so far, before `=`, in the place of an operator behind a definition's name
 abbrev pub is_unknown_op : List Word → List Leaf → Word → Option Word → Bool

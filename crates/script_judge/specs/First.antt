@@ -1,6 +1,6 @@
 -- The first refusal of a text.
 use Rattle.std.specs.Prelude.{◌≡◌, ℕ, ◌==◌, ◌&&◌, ◌||◌, nat_lt, List, length, Option, Some, None}
-use Rattle.std.specs.Prelude.{Bool, if◌then◌else◌, true, false, refl}
+use Rattle.std.specs.Prelude.{Bool, if◌then◌else◌}
 use Rattle.script_judge.specs.declared.refusal.Refusal.{Refusal}
 use Rattle.script_judge.specs.declared.refusal.RefusalKind.{RefusalKind}
 use Rattle.script_judge.specs.declared.refusal.RefusalKind.TheVariants as kind
@@ -57,17 +57,3 @@ FaultsAreUnique = (text : List ℕ) (a b : Option Refusal) → IsFaultOf text a
 abbrev pub FirstsAreUnique : Type 0
 FirstsAreUnique = (text : List ℕ) (a b : Option Refusal) → IsFirstRefusal text a
     → IsFirstRefusal text b → a ≡ b
-
--- ---- no refusal
-pub second_none : (a b : Option Refusal) → first_of a b ≡ None → b ≡ None
-second_none None b e = e
-second_none (Some x) None e = refl
-second_none (Some x) (Some y) e = absurd (by_test _ e)
-  where
-    by_test : (t : Bool) → (if t then Some y else Some x) ≡ None → ⊥
-    by_test true e = cc e
-    by_test false e = cc e
-
-pub none_found : (r : Reading) (o : Option Fault) → refusal_of r o ≡ None → o ≡ None
-none_found r None e = refl
-none_found r (Some f) e = absurd (cc e)

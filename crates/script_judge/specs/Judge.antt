@@ -1,6 +1,6 @@
 -- The refusals that are judged on the words before the reading ends, token by token.
 use Rattle.std.specs.Prelude.{◌≡◌, ℕ, ◌+◌, ◌&&◌, ◌||◌, not, nat_lt, List, [], ◌∷◌, length, Option}
-use Rattle.std.specs.Prelude.{Some, None, Bool, true, false, if◌then◌else◌, refl}
+use Rattle.std.specs.Prelude.{Some, None, Bool, true, false, if◌then◌else◌}
 use Rattle.script_words.specs.declared.class.Symbol.TheVariants as s
 use Rattle.script_words.specs.Words.{Word, sign}
 use Rattle.script_shape.specs.declared.due.Due.{Due}
@@ -63,9 +63,6 @@ seen_after v seen r w = record {
       (operand_name r w)) v.arrow_behind (ends_between seen.bounds.lower v.number) v.number r w;
 }
 
--- ---- `?` in a hypothesis; `@FIX`, `\/` and `not` in a goal: propositions with a `->` of the
--- formula behind them are hypotheses
-
 -- how many of them are
 abbrev pub arrow_count : List Leaf → ℕ
 arrow_count [] = 0
@@ -88,8 +85,6 @@ is_on_wrong_side d.Prop w arrow_behind behind = not arrow_behind && not (is_empt
 is_on_wrong_side d.Connective w arrow_behind behind = is_or w && not arrow_behind
 is_on_wrong_side d.Claim w arrow_behind behind = not arrow_behind || not (begins_bound behind)
 is_on_wrong_side r w arrow_behind behind = false
-
--- ---- one token: the kinds in the order of their numbers
 
 -- the first kind whose test is true
 abbrev pub first_kind : List (Bool × RefusalKind) → Option RefusalKind
@@ -153,8 +148,6 @@ refusal_at v seen r w behind =
     or_else (form_refusal v seen r w (has_arrow behind) behind)
     (limit_refusal (seen_after v seen r w) r w)
 
--- ---- all tokens
-
 -- The first refused word, counted from i on, or none.
 pub data Judged : ℕ → Seen → List Leaf → Option Fault → Type 0 where
   none_refused : {i : ℕ} {seen : Seen} → Judged i seen [] None
@@ -164,13 +157,3 @@ pub data Judged : ℕ → Seen → List Leaf → Option Fault → Type 0 where
   passed : {i : ℕ} {seen : Seen} {l : Leaf} {ls : List Leaf} {v : Notes} {found : Option Fault}
       → Tells v l.role l.word ls → refusal_at v seen l.role l.word ls ≡ None
       → Judged (i + 1) (seen_after v seen l.role l.word) ls found → Judged i seen (l ∷ ls) found
-
--- ---- no refusal
-pub fails : (b : Bool) (k : RefusalKind) (rest : Option RefusalKind)
-    → (if b then Some k else rest) ≡ None → (b ≡ false) × (rest ≡ None)
-fails true k rest e = absurd (cc e)
-fails false k rest e = (refl, e)
-
-pub both_none : (a b : Option RefusalKind) → or_else a b ≡ None → (a ≡ None) × (b ≡ None)
-both_none None b h = (refl, h)
-both_none (Some k) b h = absurd (cc h)

@@ -15,4 +15,3 @@ pub mod SplitViews
 pub mod Judge
 pub mod First
 pub mod Judgement
-pub mod FewCases

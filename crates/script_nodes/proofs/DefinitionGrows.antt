@@ -21,7 +21,7 @@ use Rattle.script_nodes.specs.Waits.{operation, read}
 use Rattle.script_nodes.specs.Defining.{Defining, operator_begun, defined_by, operator_closed}
 use Rattle.script_nodes.specs.Defining.{joined, name_joined, define_word, define_all, opens_formula}
 use Rattle.script_nodes.specs.Growth.{node_count, EndsGrow, WordsGrow, DefiningGrows}
-use Rattle.script_nodes.specs.Kept.{put_grows}
+use Rattle.script_nodes.proofs.Kept.{put_grows}
 use Rattle.script_nodes.proofs.Grows.{named_grows, two_grow, factor_grows, closing_grows}
 use Rattle.script_nodes.proofs.Grows.{parting_count}
 

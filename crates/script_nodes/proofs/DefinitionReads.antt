@@ -14,7 +14,7 @@ use Rattle.script_shape.specs.Tree.{Definition, names_operator, names_value, Scr
 use Rattle.script_shape.specs.Tree.{define}
 use Rattle.script_shape.specs.Roles.{Leaf, at, special_leaves, name_leaves, operator_leaves}
 use Rattle.script_shape.specs.Roles.{expr_leaves, how_leaves, definition_leaves, script_leaves}
-use Rattle.script_shape.specs.Inner.{EachRole, IsInner, expr_inner, operator_rest, operator_inner}
+use Rattle.script_shape.proofs.Inner.{EachRole, IsInner, expr_inner, operator_rest, operator_inner}
 use Rattle.script_nodes.specs.Known.{Name, Known, nothing_known, no_rounding}
 use Rattle.script_nodes.specs.Operators.{rounding_of, direction_of, special_text}
 use Rattle.script_nodes.specs.Values.{expr_value}

@@ -8,7 +8,7 @@ use Rattle.fx_model.specs.declared.ExprId.{ExprId}
 use Rattle.script_nodes.specs.Known.{Name, entry_of, with_entry, or_none, operator_named}
 use Rattle.script_nodes.specs.Waits.{Reading}
 use Rattle.script_nodes.specs.Sound.{ValuesFit, OperatorsFit, IsInRange, IsSound}
-use Rattle.script_nodes.specs.Kept.{value_among, value_joins}
+use Rattle.script_nodes.proofs.Kept.{value_among, value_joins}
 
 -- ---- values
 

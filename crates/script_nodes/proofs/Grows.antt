@@ -12,7 +12,7 @@ use Rattle.script_nodes.specs.Known.{Name, Known, PlacedNode, put, variable_put,
 use Rattle.script_nodes.specs.Known.{entry_of}
 use Rattle.script_nodes.specs.Values.{then_rounded, one_operand, fused_sum}
 use Rattle.script_nodes.specs.Growth.{node_count, NamesGrow}
-use Rattle.script_nodes.specs.Kept.{placed_grows, put_grows}
+use Rattle.script_nodes.proofs.Kept.{placed_grows, put_grows}
 use Rattle.script_nodes.specs.Waits.{Reading, is_minus_first, Complete, factor_done, closing}
 use Rattle.script_nodes.specs.Waits.{closed, parting, parted, then_operation}
 

@@ -15,3 +15,4 @@ pub mod OperandGrows
 pub mod Faults
 pub mod ScriptLeaves
 pub mod DefinitionGrows
+pub mod Kept

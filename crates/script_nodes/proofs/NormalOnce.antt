@@ -6,9 +6,9 @@ use Rattle.std.proofs.Common.{eq-eqb, true≢false, Option}
 use Rattle.std.proofs.lemmas.Int.{ints, by_lt_z}
 use Rattle.std.proofs.Math.Nat.{pow-succ'}
 use Rattle.std.specs.Str.Parse.{IsNumeral, digits_value}
-use Rattle.fx_model.specs.Fraction.{Fraction, ◌*ℚ◌, ◌≤ℚ◌, ◌<ℚ◌, zero_ℚ, le_refl, mul_cancel}
-use Rattle.fx_model.specs.Fraction.{mul_comm, lt_by, lt_not, lt_le, inverse_ℚ, mul-inverse, mul-le}
-use Rattle.fx_model.specs.Fraction.{zero-mul, one_ℚ}
+use Rattle.fx_model.specs.Fraction.{Fraction, ◌*ℚ◌, ◌≤ℚ◌, ◌<ℚ◌, zero_ℚ, le_refl, mul_comm, lt_by}
+use Rattle.fx_model.specs.Fraction.{lt_not, lt_le, inverse_ℚ, mul-inverse, mul-le, zero-mul, one_ℚ}
+use Rattle.fx_model.proofs.Fraction.{mul_cancel}
 use Rattle.fx_model.specs.Powers.{whole, two_to, whole-le_out, two_to-positive, one-whole}
 use Rattle.fx_model.specs.Cut.Gaps.{gap_le}
 use Rattle.fx_model.specs.Expression.{literal_value, ten_to}
@@ -17,8 +17,8 @@ use Rattle.literal.specs.declared.scan.Form.{Form}
 use Rattle.literal.specs.declared.scan.Form.TheVariants.{Decimal, Binary, Hexadecimal}
 use Rattle.literal.specs.Spelling.{Exponent, base, is_hexadecimal, written_as, IsWithinAs}
 use Rattle.literal.specs.Normal.{nought, IsReduced, IsNormalOf}
-use Rattle.literal.specs.Tens.{decimal, binary, tens_moved, twos_moved, whole_positive, not_zero}
-use Rattle.literal.specs.Tens.{pow_positive, few_digits, zero_value}
+use Rattle.literal.proofs.Tens.{decimal, binary, tens_moved, twos_moved, whole_positive, not_zero}
+use Rattle.literal.proofs.Tens.{pow_positive, few_digits, zero_value}
 use Rattle.script_nodes.specs.Literals.{tens_out, twos_out, normal_of}
 
 -- ---- powers of ten aren't 0

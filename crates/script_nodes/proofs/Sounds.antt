@@ -12,7 +12,7 @@ use Rattle.script_nodes.specs.declared.waits.Waits.TheVariants as wait
 use Rattle.script_nodes.specs.Known.{Known, PlacedNode, put}
 use Rattle.script_nodes.specs.Waits.{Reading}
 use Rattle.script_nodes.specs.Sound.{Fits, AllFit, IsSound, IsMade}
-use Rattle.script_nodes.specs.Kept.{values_fit_more}
+use Rattle.script_nodes.proofs.Kept.{values_fit_more}
 
 -- ---- below a greater number
 

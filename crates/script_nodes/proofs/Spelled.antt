@@ -12,7 +12,7 @@ use Rattle.literal.specs.Spelling.{Exponent, Spelling, base, is_hexadecimal, mar
 use Rattle.literal.specs.Spelling.{point_bytes, scale_bytes, body_bytes, spelling_bytes, IsFraction}
 use Rattle.literal.specs.Spelling.{IsExponent, IsSpelling}
 use Rattle.literal.specs.Parts.{IsNoDigitFirst}
-use Rattle.literal.specs.Tails.{tail_ends, scale_ends}
+use Rattle.literal.proofs.Tails.{tail_ends, scale_ends}
 use Rattle.script_nodes.specs.Literals.{front, behind, fraction_at, behind_fraction, exponent_at}
 use Rattle.script_nodes.specs.Literals.{scale_at, form_at, opens_hexadecimal, without_opening}
 use Rattle.script_nodes.specs.Literals.{parts_as, parts_of}

@@ -14,7 +14,7 @@ use Rattle.script_nodes.specs.Known.{Name, Known, PlacedNode, put, variable_put,
 use Rattle.script_nodes.specs.Waits.{Reading}
 use Rattle.script_nodes.specs.Sound.{IsSound}
 use Rattle.script_nodes.proofs.Sounds.{all_fit_more, ends_with}
-use Rattle.script_nodes.specs.Kept.{values_fit_more}
+use Rattle.script_nodes.proofs.Kept.{values_fit_more}
 
 -- ---- places among names
 

@@ -11,4 +11,3 @@ pub mod Defining
 pub mod Examples
 pub mod Sound
 pub mod Growth
-pub mod Kept

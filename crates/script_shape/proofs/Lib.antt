@@ -10,3 +10,4 @@ pub mod Shaped
 pub mod AllShaped
 pub mod Next
 pub mod Once
+pub mod Inner

@@ -3,7 +3,6 @@ pub mod Propositions
 pub mod Hints
 pub mod Tree
 pub mod Roles
-pub mod Inner
 pub mod Table
 pub mod Shape
 pub mod ShapeLaw

@@ -4,19 +4,21 @@ use Rattle.std.specs.List.{AllByRecursion}
 use Rattle.std.proofs.Common.{sym, subst, ⊎_elim}
 use Rattle.fx_model.specs.declared.Node.{Node}
 use Rattle.fx_model.specs.Expression.{Assignment}
-use Rattle.pair_closure.specs.Members.{has_all}
+use Rattle.pair_closure.proofs.Members.{has_all}
 use Rattle.facts.specs.declared.fact.Fact.{Fact}
 use Rattle.facts.specs.Holds.{Holds}
-use Rattle.script_cases.specs.Met.{SomeOf, met_in_some_case}
+use Rattle.script_cases.specs.Met.{SomeOf}
+use Rattle.script_cases.proofs.MetLaws.{met_in_some_case}
 use Rattle.script_claims.specs.declared.claim.Claim.{Claim}
-use Rattle.script_claims.specs.Facts.{hypothesis_fact, facts_all}
+use Rattle.script_claims.specs.Facts.{hypothesis_fact}
+use Rattle.script_claims.proofs.Facts.{facts_all}
 use Rattle.script_claims.specs.Meets.{IsTrueAt}
 use Rattle.script_grammar.specs.Spells.{View}
 use Rattle.script_grammar.specs.Names.{ClaimIsOf, HintIsOf}
 use Rattle.script_grammar.specs.Cases.{cases_of}
 use Rattle.rule_universe.specs.Worlds.{World}
-use Rattle.rule_universe.specs.Wholes.{all_contained}
-use Rattle.universe.specs.Cases.{each_has}
+use Rattle.rule_universe.proofs.Wholes.{all_contained}
+use Rattle.universe.proofs.Cases.{each_has}
 use Rattle.script_truths.specs.Kept.{OfExtended, ClaimsAreKept, RowsAreKept}
 use Rattle.script_truths.specs.Truths.{AreTrue, SomeCaseIsMet, MetRowsAreTrue, HasUniverse}
 use Rattle.script_truths.specs.Truths.{UniversesExtend, WhereMet, HypothesesHold, HintsAreTrue}

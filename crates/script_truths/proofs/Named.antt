@@ -4,7 +4,7 @@ use Rattle.std.specs.List.{AllByRecursion}
 use Rattle.std.proofs.Common.{subst}
 use Rattle.fx_model.specs.declared.ExprId.{ExprId}
 use Rattle.interval.specs.declared.interval.Interval.{Interval}
-use Rattle.pair_closure.specs.Members.{some-inj, has_all}
+use Rattle.pair_closure.proofs.Members.{some-inj, has_all}
 use Rattle.facts.specs.declared.fact.Fact.{Fact}
 use Rattle.facts.specs.declared.fact.Fact.TheVariants as fact
 use Rattle.facts.specs.declared.place.FixPlace.{FixPlace}
@@ -20,7 +20,8 @@ use Rattle.script_claims.specs.declared.claim.Claim.{Claim}
 use Rattle.script_claims.specs.declared.claim.Claim.TheVariants.{Bounded, Asked, Relative}
 use Rattle.script_claims.specs.declared.claim.Claim.TheVariants.{RelativeAsked, Multiple, Above}
 use Rattle.script_claims.specs.declared.claim.Claim.TheVariants.{Below}
-use Rattle.script_claims.specs.Facts.{hypothesis_fact, facts_all, goal_of}
+use Rattle.script_claims.specs.Facts.{hypothesis_fact, goal_of}
+use Rattle.script_claims.proofs.Facts.{facts_all}
 use Rattle.script_grammar.specs.Names.{IsNode, AreNodes, ClaimIsOf, HintIsOf}
 use Rattle.rule_universe.specs.Licensed.{RowIsKnown}
 use Rattle.script_truths.specs.Kept.{SlotIsOf}

@@ -9,9 +9,9 @@ use Rattle.fx_model.specs.declared.Node.TheVariants as node
 use Rattle.fx_model.specs.Expression.{IsOrdered}
 use Rattle.poly_normal.specs.Mark.{EqualFormsHaveEqualValues}
 use Rattle.pair_closure.specs.Reached.{Has}
-use Rattle.pair_closure.specs.Members.{has_all, no_member}
+use Rattle.pair_closure.proofs.Members.{has_all, no_member}
 use Rattle.facts.specs.declared.hint.HintRow.{HintRow}
-use Rattle.facts.specs.CommonParts.{stands}
+use Rattle.facts.proofs.CommonParts.{stands}
 use Rattle.script_hints.specs.declared.hint.Constraint.{Constraint}
 use Rattle.script_hints.specs.declared.hint.Constraint.TheVariants as constraint
 use Rattle.script_hints.specs.declared.hint.Hint.{Hint}
@@ -19,7 +19,8 @@ use Rattle.script_hints.specs.Needs.{need_of}
 use Rattle.script_hints.specs.Meets.{MeetsHint}
 use Rattle.script_grammar.specs.Names.{ConstraintIsOf, HintIsOf}
 use Rattle.script_meets.specs.Meets.{HintsAreMet}
-use Rattle.rule_universe.specs.Licensed.{NeedIsKnown, RowIsKnown, kid}
+use Rattle.rule_universe.specs.Licensed.{NeedIsKnown, RowIsKnown}
+use Rattle.rule_universe.proofs.Licensed.{kid}
 use Rattle.rewrite_hints.specs.Rows.{IsRowOf, RowsAreTrue, EqualSidesAreMet}
 use Rattle.rewrite_hints.specs.Marks.{AreRows}
 use Rattle.script_truths.specs.Truths.{CheckedRowsAreTrue, MetRowsAreTrue}

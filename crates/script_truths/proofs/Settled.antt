@@ -8,11 +8,11 @@ use Rattle.fx_model.specs.Enclosure.{Lies, within_in}
 use Rattle.fx_model.specs.Expression.{Assignment, value}
 use Rattle.interval.specs.declared.interval.Interval.{Interval}
 use Rattle.interval.specs.Intervals.{range_of}
-use Rattle.pair_closure.specs.Members.{has_all}
+use Rattle.pair_closure.proofs.Members.{has_all}
 use Rattle.facts.specs.declared.fact.Fact.{Fact}
 use Rattle.facts.specs.declared.fact.Fact.TheVariants as fact
 use Rattle.facts.specs.Holds.{Holds, IsRelated}
-use Rattle.facts.specs.Held.{some-and, related-wider}
+use Rattle.facts.proofs.Held.{some-and, related-wider}
 use Rattle.facts.specs.Order.{IsWithin}
 use Rattle.facts.specs.Order as order
 use Rattle.goals.specs.declared.goal.Want.{Want}

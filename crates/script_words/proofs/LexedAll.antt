@@ -7,7 +7,7 @@ use Rattle.script_words.specs.declared.lex.TokenKind.{TokenKind}
 use Rattle.script_words.specs.declared.lex.Token.{Token}
 use Rattle.script_words.specs.Lex.{is_blank, blank_len, front, Lexes, ends, bad, token, LexesAll}
 use Rattle.script_words.specs.Lex.{TokensAreFew}
-use Rattle.script_words.specs.Fronts.{front_some}
+use Rattle.script_words.proofs.Fronts.{front_some}
 
 -- ---- each token has a byte or more, so a shorter text is behind the first
 

@@ -5,3 +5,7 @@ pub mod Marked
 pub mod ReadTo
 pub mod DigitSteps
 pub mod Quiet
+pub mod Fronts
+pub mod Utf8
+pub mod Grown
+pub mod Within

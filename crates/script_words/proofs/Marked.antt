@@ -21,7 +21,7 @@ use Rattle.script_words.specs.Named.{defined_by, words_from, words_of, text_cmp,
 use Rattle.script_words.specs.Named.{spelled_of}
 use Rattle.script_words.specs.Placed.{word_with, kind_of, word_text, word_at, words_at, token_of}
 use Rattle.script_words.specs.Placed.{tokens_of}
-use Rattle.script_words.specs.Grown.{one_more}
+use Rattle.script_words.proofs.Grown.{one_more}
 
 module _ (names : List (List ℕ)) (k : TokenKind) (text : List ℕ) (spelled : Spelled)
     (is_name : k ≡ kind.Name) (same : spelled ≡ spelled_of text) where

@@ -12,7 +12,7 @@ use Rattle.script_words.specs.Literals.{is_word, is_in, run_len, part_len, signe
 use Rattle.script_words.specs.Literals.{scaled_len, is_hex, literal_len}
 use Rattle.script_words.specs.Signs.{sign_at, reserved_word}
 use Rattle.script_words.specs.Lex.{front, word_kind, sign_token}
-use Rattle.script_words.specs.Within.{run-le, point-le, of_digits, literal_from, literal-le}
+use Rattle.script_words.proofs.Within.{run-le, point-le, of_digits, literal_from, literal-le}
 use Rattle.script_words.specs.Quiet.{IsQuiet, EndsBeforeQuiet}
 
 -- ---- before a quiet byte

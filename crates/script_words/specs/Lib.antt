@@ -1,12 +1,8 @@
 pub mod Literals
 pub mod Signs
 pub mod Lex
-pub mod Fronts
-pub mod Utf8
 pub mod Words
 pub mod Named
-pub mod Grown
 pub mod Placed
 pub mod Kept
-pub mod Within
 pub mod Quiet

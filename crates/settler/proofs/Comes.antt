@@ -17,7 +17,8 @@ use Rattle.derivation.specs.Laws.{TablesExist, BoxesComeToOneState}
 use Rattle.rule_universe.specs.Worlds.{World}
 use Rattle.rule_universe.specs.Assumed.{assuming}
 use Rattle.saturate.specs.Universes.{setting_of}
-use Rattle.universe.specs.Universes.{IsUniverse, IsTooLarge, assumed}
+use Rattle.universe.specs.Universes.{IsUniverse, IsTooLarge}
+use Rattle.universe.proofs.Universes.{assumed}
 use Rattle.box_tree.specs.Plans.{cut_at, pieces_at}
 use Rattle.bisect.specs.Trees.{tree_of}
 use Rattle.case_trees.specs.declared.outcome.CaseOutcome.{CaseOutcome}

@@ -10,3 +10,4 @@ pub mod Onward
 pub mod Open
 pub mod One
 pub mod Comes
+pub mod CasesLaws

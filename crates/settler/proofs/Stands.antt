@@ -6,8 +6,8 @@ use Rattle.facts.specs.declared.fact.Slot.{Slot}
 use Rattle.facts.specs.declared.fact.Fact.TheVariants as fact
 use Rattle.facts.specs.declared.fact.Slot.TheVariants as slot
 use Rattle.facts.specs.Order.{IsStronger}
-use Rattle.facts.specs.Meets.{IsStronger-antisymm}
-use Rattle.facts.specs.CommonParts.{void_is}
+use Rattle.facts.proofs.Meets.{IsStronger-antisymm}
+use Rattle.facts.proofs.CommonParts.{void_is}
 use Rattle.goals.specs.declared.goal.Goal.{Goal}
 use Rattle.goals.specs.Settles.{Settles}
 use Rattle.goals.specs.Stronger.{StrongerSettles}
@@ -17,7 +17,7 @@ use Rattle.derivation.specs.Known.{Piece, Known, IsTableAt}
 use Rattle.derivation.specs.Settled.{IsSettled, IsState}
 use Rattle.derivation.specs.Settled as box
 use Rattle.derivation.specs.Decided.{state_in}
-use Rattle.derivation.specs.Parts.{some_same}
+use Rattle.derivation.proofs.Parts.{some_same}
 use Rattle.derivation.specs.Exists.{table_at}
 use Rattle.derivation.specs.Laws.{TablesExist, BoxesComeToOneState}
 use Rattle.bisect.specs.declared.settler.State.{State}

@@ -25,7 +25,8 @@ use Rattle.bisect.specs.declared.settler.State.TheVariants as state
 use Rattle.bisect.specs.declared.outcome.Leaf.{Leaf}
 use Rattle.bisect.specs.Trees.{Tree, child_count, IsLeaf}
 use Rattle.bisect.specs.Boxes.{AreBoxes, first_open, leaves_of, leaf_at, with_leaf, open_goal}
-use Rattle.bisect.specs.Boxes.{or_later, not_some, later_none}
+use Rattle.bisect.specs.Boxes.{or_later}
+use Rattle.bisect.proofs.Boxes.{not_some, later_none}
 use Rattle.bisect.specs.Gathered.{with_known, with_state, line_with, line_of, lines_of}
 use Rattle.case_trees.specs.declared.outcome.OpenLeaf.{OpenLeaf}
 use Rattle.case_trees.specs.Listed.{Listed, AreListed, first_open_from, all_leaves}

@@ -2,10 +2,3 @@ pub mod Shapes
 pub mod Bounds
 pub mod Sizes
 pub mod EachRule
-pub mod Sound
-pub mod SoundSizes
-pub mod SoundOperations
-pub mod Isotone
-pub mod IsotoneSizes
-pub mod IsotoneOperations
-pub mod OnTarget

@@ -1,0 +1,12 @@
+pub mod Beside
+pub mod Greatest
+pub mod Ranges
+pub mod ShrunkRanges
+pub mod SoundMultiples
+pub mod SoundRoundings
+pub mod SoundNonzero
+pub mod Isotone
+pub mod IsotoneRoundings
+pub mod IsotoneNonzero
+pub mod ShrinkingLaws
+pub mod OnTarget

@@ -44,20 +44,16 @@ step_out true k x o p t h e =
     subst (λ n. IsMultiple n x) (sym (place_from_out k p e)) (is_multiple_in k x t)
 step_out false k x o p t h e = h e
 
-greatest_of_out : (n : ℕ) (x : Fraction) (p : FixPlace) → greatest_of n x ≡ Some p
+pub greatest_of_out : (n : ℕ) (x : Fraction) (p : FixPlace) → greatest_of n x ≡ Some p
     → IsMultiple p.exponent x
 unfolding greatest_of
 greatest_of_out zero x p e = cc
 greatest_of_out (suc n) x p e = step_out (is_multiple (pos n +ℤ negsuc 1023) x)
     (pos n +ℤ negsuc 1023) x (greatest_of n x) p refl (greatest_of_out n x p) e
 
-pub greatest_place_out : (x : Fraction) (p : FixPlace) → greatest_place x ≡ Some p
-    → IsMultiple p.exponent x
-greatest_place_out x p e = greatest_of_out 1537 x p e
-
 -- ---- it is the greatest
 -- no greater place is one
-abbrev IsMost : Fraction → FixPlace → Type 0
+abbrev pub IsMost : Fraction → FixPlace → Type 0
 IsMost x p = (j : ℤ) → j ≤ℤ pos 512 → IsMultiple j x → j ≤ℤ p.exponent
 
 step_is : (b : Bool) (k : ℤ) (x : Fraction) (o : Option FixPlace) (p : FixPlace)
@@ -70,7 +66,7 @@ step_is false k x o p t h l m g rest = by_lt_z p.exponent k rest
     (λ a. let e : p.exponent ≡ k = omega (arith, ints) in
     let f : true ≡ false = sym (is_multiple_out k x (subst (λ n. IsMultiple n x) e m)) ∙ t in cc)
 
-greatest_of-is : (n : ℕ) (x : Fraction) (p : FixPlace)
+pub greatest_of-is : (n : ℕ) (x : Fraction) (p : FixPlace)
     → n ≤ 1537 → p.exponent <ℤ (pos n +ℤ negsuc 1023) → IsMultiple p.exponent x → IsMost x p
     → greatest_of n x ≡ Some p
 unfolding greatest_of
@@ -80,25 +76,16 @@ greatest_of-is (suc n) x p h l m g =
     (omega (arith, ints)) (omega (arith, ints)) m g
     (λ a. greatest_of-is n x p (omega arith) a m g)
 
-pub greatest_place-is : (x : Fraction) (p : FixPlace) → IsMultiple p.exponent x → IsMost x p
-    → greatest_place x ≡ Some p
-greatest_place-is x p m g = let h = p.highest in
-    greatest_of-is 1537 x p (omega arith) (omega (arith, ints)) m g
-
 -- ---- there is none
 step_none : (b : Bool) (k : ℤ) (x : Fraction) (o : Option FixPlace) → is_multiple k x ≡ b
     → ¬ IsMultiple k x → o ≡ None → (if b then place_from k else o) ≡ None
 step_none true k x o t n e = absurd (n (is_multiple_in k x t))
 step_none false k x o t n e = e
 
-greatest_of-none : (n : ℕ) (x : Fraction) → ((k : ℤ) → negsuc 1023 ≤ℤ k → ¬ IsMultiple k x)
+pub greatest_of-none : (n : ℕ) (x : Fraction) → ((k : ℤ) → negsuc 1023 ≤ℤ k → ¬ IsMultiple k x)
     → greatest_of n x ≡ None
 unfolding greatest_of
 greatest_of-none zero x h = refl
 greatest_of-none (suc n) x h =
     step_none (is_multiple (pos n +ℤ negsuc 1023) x) (pos n +ℤ negsuc 1023) x (greatest_of n x) refl
     (h (pos n +ℤ negsuc 1023) (omega (arith, ints))) (greatest_of-none n x h)
-
-pub greatest_place-none : (x : Fraction) → ((k : ℤ) → negsuc 1023 ≤ℤ k → ¬ IsMultiple k x)
-    → greatest_place x ≡ None
-greatest_place-none x h = greatest_of-none 1537 x h

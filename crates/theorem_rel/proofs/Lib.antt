@@ -1,0 +1,9 @@
+pub mod Numbers
+pub mod Related
+pub mod GivenLaws
+pub mod Members
+pub mod SoundValues
+pub mod SoundOperations
+pub mod OnTarget
+pub mod IsotoneValues
+pub mod IsotoneOperations

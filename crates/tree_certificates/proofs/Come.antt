@@ -15,30 +15,33 @@ use Rattle.facts.specs.declared.fact.Slot.TheVariants as slot
 use Rattle.facts.specs.declared.hint.HintRow.{HintRow}
 use Rattle.facts.specs.Order.{slot_of}
 use Rattle.facts.specs.declared.instance.Instance.{Instance}
-use Rattle.facts.specs.CommonParts.{at_option}
+use Rattle.facts.proofs.CommonParts.{at_option}
 use Rattle.theorem_list.specs.Concludes.{concludes}
 use Rattle.derivation.specs.Derivations.{Setting, At}
 use Rattle.derivation.specs.Known.{Piece}
 use Rattle.derivation.specs.Rounds.{IsProper, conclusion}
-use Rattle.derivation.specs.Parts.{conclusion_reads}
-use Rattle.derivation.specs.Exists.{joined, with_fact, with_fact-improves, with_conclusion}
-use Rattle.derivation.specs.Exists.{conclusion_of, after_instances, after_round, after_rounds}
-use Rattle.derivation.specs.Exists.{blank, with_hypotheses, line_of, with_lines, table_at}
-use Rattle.derivation.specs.Steps.{improved_proper}
+use Rattle.derivation.proofs.Parts.{conclusion_reads}
+use Rattle.derivation.specs.Exists.{joined, with_fact, with_conclusion, conclusion_of}
+use Rattle.derivation.specs.Exists.{after_instances, after_round, after_rounds, blank}
+use Rattle.derivation.specs.Exists.{with_hypotheses, line_of, with_lines, table_at}
+use Rattle.derivation.proofs.Exists.{with_fact-improves}
+use Rattle.derivation.proofs.Steps.{improved_proper}
 use Rattle.cert_bytes.specs.declared.item.StepRow.{StepRow}
 use Rattle.cert_bytes.specs.Certificates.{IsCounted, IsShort}
 use Rattle.cert_checker.specs.Open.{Numbered, with_step}
 use Rattle.cert_checker.specs.declared.given.Given.TheVariants as given
-use Rattle.cert_checker.specs.Given.{given_number, given_short, given_low}
+use Rattle.cert_checker.specs.Given.{given_number}
+use Rattle.cert_checker.proofs.GivenLaws.{given_short, given_low}
 use Rattle.cert_checker.specs.Steps.{step_facts, gives, gives_by, met_with, IsEnough, target_of}
 use Rattle.cert_checker.specs.Steps.{whole_line, variable_fact}
 use Rattle.tree_certificates.specs.Sections.{behind, ArePlaces, AreBelow}
 use Rattle.tree_certificates.specs.Writing.{IsSlotKnown, IsWritable, givens_of}
 use Rattle.tree_certificates.specs.Traces.{Trace, IsCutTo, most_steps}
-use Rattle.tree_certificates.specs.Cited.{step_kept, behind_both, premises_found, fields_more}
-use Rattle.tree_certificates.specs.Cited.{mapped, reads_length}
-use Rattle.tree_certificates.specs.Coming.{met_by, coming, aims, enough, coming_accepted, placed_at}
-use Rattle.tree_certificates.specs.Coming.{traced_more, met_by_interval, line_joined}
+use Rattle.tree_certificates.proofs.Cited.{step_kept, behind_both, premises_found, fields_more}
+use Rattle.tree_certificates.proofs.Cited.{mapped, reads_length}
+use Rattle.tree_certificates.proofs.Coming.{met_by, aims, enough, coming_accepted, placed_at}
+use Rattle.tree_certificates.proofs.Coming.{traced_more, met_by_interval, line_joined}
+use Rattle.tree_certificates.specs.Coming.{coming}
 
 one_longer : (rows : List StepRow) (row : StepRow) (n : ℕ) → length rows ≤ n
     → length (rows ++ row ∷ []) ≤ n + 1

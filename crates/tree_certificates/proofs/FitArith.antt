@@ -10,13 +10,15 @@ use Rattle.fx_model.specs.declared.Node.TheVariants as node
 use Rattle.interval.specs.declared.interval.Interval.{Interval}
 use Rattle.interval.specs.Results.{negation_of, sum_of, difference_of, product_of, quotient_of}
 use Rattle.interval.specs.Results.{point_of, whole_interval, size_of}
-use Rattle.expr_dag.specs.Shapes.{is_at, is_at_out}
+use Rattle.expr_dag.specs.Shapes.{is_at}
+use Rattle.expr_dag.proofs.Shapes.{is_at_out}
 use Rattle.facts.specs.declared.size.Size.{Size}
 use Rattle.facts.specs.declared.fact.Fact.TheVariants as fact
 use Rattle.facts.specs.declared.fact.Slot.TheVariants as slot
 use Rattle.facts.specs.Order.{is_same}
 use Rattle.facts.specs.Parts.{size_within}
-use Rattle.facts.specs.Conclusions.{abs_of, bnd_of, given}
+use Rattle.facts.specs.Conclusions.{abs_of, bnd_of}
+use Rattle.facts.proofs.Conclusions.{given}
 use Rattle.theorem_arith.specs.Shapes.{is_one}
 use Rattle.theorem_arith.specs.Bounds.{literal_at, literal_rule, negation_rule, binary_rule}
 use Rattle.theorem_arith.specs.Bounds.{sum_rule, difference_rule, product_rule}

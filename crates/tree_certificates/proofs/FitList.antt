@@ -18,7 +18,7 @@ use Rattle.theorem_fix.specs.EachRule as multiples
 use Rattle.theorem_rel.specs.EachRule as relatives
 use Rattle.rewrite_rules.specs.EachRule as rewritings
 use Rattle.theorem_list.specs.Concludes.{listed, by_number, by_row, concludes}
-use Rattle.theorem_list.specs.Rows.{numbered, by_rows, each_row}
+use Rattle.theorem_list.proofs.Rows.{numbered, by_rows, each_row}
 use Rattle.cert_checker.specs.declared.given.Given.TheVariants.{Hypothesis}
 use Rattle.cert_checker.specs.Given.{given_number}
 use Rattle.tree_certificates.specs.Writing.{IsVoidFitting, IsFromFew, IsNumberedLow}

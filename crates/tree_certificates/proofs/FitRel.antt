@@ -11,7 +11,8 @@ use Rattle.interval.specs.declared.interval.Interval.{Interval}
 use Rattle.interval.specs.Intervals.{range_of}
 use Rattle.interval.specs.Results.{sum_of, quotient_of, point_of, has_zero}
 use Rattle.interval.specs.Members.{has_one}
-use Rattle.expr_dag.specs.Shapes.{is_at, is_known, are_known, is_at_out}
+use Rattle.expr_dag.specs.Shapes.{is_at, is_known, are_known}
+use Rattle.expr_dag.proofs.Shapes.{is_at_out}
 use Rattle.facts.specs.declared.relative.RelativeError.{RelativeError}
 use Rattle.facts.specs.declared.fact.Fact.{Fact}
 use Rattle.facts.specs.declared.fact.Fact.TheVariants as fact
@@ -19,8 +20,8 @@ use Rattle.facts.specs.declared.fact.Slot.TheVariants as slot
 use Rattle.facts.specs.Order.{is_same}
 use Rattle.facts.specs.Parts.{error_from, error_of_part}
 use Rattle.facts.specs.RelativeConclusions.{rel_of, void_only}
-use Rattle.facts.specs.Conclusions.{given}
-use Rattle.facts.specs.CommonParts.{same_itself}
+use Rattle.facts.proofs.Conclusions.{given}
+use Rattle.facts.proofs.CommonParts.{same_itself}
 use Rattle.theorem_rel.specs.Values.{unit, relative_to_itself_rule, relative_difference_rule}
 use Rattle.theorem_rel.specs.Values.{zero_or_void, difference_fact, difference_by_error_rule}
 use Rattle.theorem_rel.specs.Values.{value_fact, value_by_error_rule, quotient_fact}

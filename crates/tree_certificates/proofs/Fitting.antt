@@ -6,9 +6,11 @@ use Rattle.std.proofs.lemmas.Option.{slice_get_within, get_or_from_slice_get}
 use Rattle.std.proofs.lemmas.Bool.{and_from}
 use Rattle.fx_model.specs.declared.ExprId.{ExprId}
 use Rattle.fx_model.specs.declared.Node.{Node}
-use Rattle.fx_model.specs.Expression.{ChildrenBelow, IsOrdered, children_later}
+use Rattle.fx_model.specs.Expression.{ChildrenBelow, IsOrdered}
+use Rattle.fx_model.proofs.Expression.{children_later}
 use Rattle.interval.specs.declared.interval.Interval.{Interval}
-use Rattle.expr_dag.specs.Shapes.{is_at, is_at_out, is_known, are_known}
+use Rattle.expr_dag.specs.Shapes.{is_at, is_known, are_known}
+use Rattle.expr_dag.proofs.Shapes.{is_at_out}
 use Rattle.facts.specs.declared.place.FixPlace.{FixPlace}
 use Rattle.facts.specs.declared.size.Size.{Size}
 use Rattle.facts.specs.declared.fact.Fact.{Fact}

@@ -26,7 +26,7 @@ use Rattle.tree_certificates.specs.Roots.{Root, AreRoots, roots_are_counted, ste
 use Rattle.tree_certificates.specs.Roots.{lines_of_roots}
 use Rattle.tree_certificates.proofs.Treed.{may_go_on}
 use Rattle.tree_certificates.proofs.Rooted.{IsAtRoot, roots_end}
-use Rattle.tree_certificates.specs.Moves.{lead_both, marks_due, root_due}
+use Rattle.tree_certificates.proofs.Moves.{lead_both, marks_due, root_due}
 
 -- ---- the head
 abbrev behind_nodes : Context → List Node → Context

@@ -9,3 +9,6 @@ mod FitFix
 mod FitRel
 mod FitRewrites
 mod FitList
+pub mod Cited
+pub mod Coming
+pub mod Moves

@@ -26,7 +26,8 @@ use Rattle.tree_certificates.specs.Trees.{IsSubjectOf}
 use Rattle.tree_certificates.specs.Roots.{Root, IsRoot, AreRoots, steps_in_roots, lines_of_roots}
 use Rattle.tree_certificates.specs.Walks.{numbered, MayBegin, IsOpen, IsEndOf, Frame, LiesIn}
 use Rattle.tree_certificates.specs.Walks.{lines_behind, left_in, steps_behind, IsDue, Ending}
-use Rattle.tree_certificates.specs.Moves.{IsEntered, lead_both}
+use Rattle.tree_certificates.specs.Moves.{IsEntered}
+use Rattle.tree_certificates.proofs.Moves.{lead_both}
 use Rattle.tree_certificates.proofs.Come.{root_trace}
 use Rattle.tree_certificates.proofs.Treed.{tree_section, trees_section, no_more, append_items}
 use Rattle.tree_certificates.proofs.Treed.{next_enters, last_ends, end_behind, may_go_on}

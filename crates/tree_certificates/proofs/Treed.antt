@@ -15,7 +15,7 @@ use Rattle.facts.specs.declared.fact.Slot.{Slot}
 use Rattle.facts.specs.declared.fact.Fact.TheVariants as fact
 use Rattle.facts.specs.declared.fact.Slot.TheVariants as slot
 use Rattle.facts.specs.declared.hint.HintRow.{HintRow}
-use Rattle.facts.specs.CommonParts.{void_is}
+use Rattle.facts.proofs.CommonParts.{void_is}
 use Rattle.goals.specs.declared.goal.Goal.{Goal}
 use Rattle.goals.specs.declared.line.Line.{Line}
 use Rattle.derivation.specs.Derivations.{Setting, At}
@@ -45,9 +45,9 @@ use Rattle.tree_certificates.specs.Trees.{lines_of_tree, lines_of_trees, steps_i
 use Rattle.tree_certificates.specs.Trees.{AllSettled, cut_of, IsProved, AreProved, IsSubjectOf}
 use Rattle.tree_certificates.specs.Walks.{numbered, behind_steps, IsLater, MayBegin, IsOpen}
 use Rattle.tree_certificates.specs.Walks.{IsBehind, IsEndOf, IsInCut, Frame, LiesIn, IsDue}
-use Rattle.tree_certificates.specs.Moves.{AreSteps, IsEntered, frame_of, turned, lead_both}
-use Rattle.tree_certificates.specs.Moves.{next_behind}
-use Rattle.tree_certificates.specs.Cited.{below_behind, found_long}
+use Rattle.tree_certificates.specs.Moves.{AreSteps, IsEntered, frame_of, turned}
+use Rattle.tree_certificates.proofs.Moves.{lead_both, next_behind}
+use Rattle.tree_certificates.proofs.Cited.{below_behind, found_long}
 use Rattle.tree_certificates.proofs.Come.{child_trace}
 use Rattle.tree_certificates.proofs.Written.{AreWritten, rows_written, settled_long}
 

@@ -6,7 +6,7 @@ use Rattle.std.proofs.Common.{arith}
 use Rattle.fx_model.specs.declared.Node.{Node}
 use Rattle.facts.specs.declared.fact.Fact.{Fact}
 use Rattle.facts.specs.declared.fact.Fact.TheVariants as fact
-use Rattle.facts.specs.CommonParts.{at_option}
+use Rattle.facts.proofs.CommonParts.{at_option}
 use Rattle.goals.specs.declared.goal.Goal.{Goal}
 use Rattle.cert_bytes.specs.declared.item.StepRow.{StepRow}
 use Rattle.cert_bytes.specs.Certificates.{IsCounted, IsLong, IsOnShort, HasRoomFor}
@@ -17,7 +17,7 @@ use Rattle.cert_checker.specs.Steps.{IsConcluded}
 use Rattle.cert_checker.specs.Faults.{AreSettled}
 use Rattle.tree_certificates.specs.Sections.{AreAccepted, AllBelow, AreBelow}
 use Rattle.tree_certificates.specs.Traces.{HasFields, HaveFields}
-use Rattle.tree_certificates.specs.Cited.{step_below, found_below, found_long}
+use Rattle.tree_certificates.proofs.Cited.{step_below, found_below, found_long}
 
 -- ---- what is found is below the next
 -- the numbers are long where the next is no longer than that

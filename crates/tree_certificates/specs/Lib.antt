@@ -1,7 +1,6 @@
 pub mod Sections
 pub mod Writing
 pub mod Traces
-pub mod Cited
 pub mod Coming
 pub mod Trees
 pub mod Roots

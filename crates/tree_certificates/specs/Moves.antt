@@ -1,14 +1,11 @@
 -- How a walk over a tree of boxes moves, and that it can always go on.
-use Rattle.std.specs.Prelude.{◌≡◌, ◌≤◌, ◌+◌, ◌^◌, ℕ, suc, List, ◌∷◌, length, map, None, Some, zero}
-use Rattle.std.specs.Prelude.{◌++◌, []}
-use Rattle.std.proofs.Common.{arith, sym, subst}
+use Rattle.std.specs.Prelude.{◌≡◌, ◌≤◌, ◌+◌, ◌^◌, ℕ, suc, List, ◌∷◌, length, map, None, Some, []}
 use Rattle.fx_model.specs.declared.ExprId.{ExprId}
 use Rattle.dyadic.specs.declared.number.Dyadic.{Dyadic}
 use Rattle.interval.specs.declared.interval.Interval.{Interval}
 use Rattle.facts.specs.declared.fact.Slot.{Slot}
 use Rattle.facts.specs.declared.fact.Fact.TheVariants as fact
 use Rattle.facts.specs.declared.hint.HintRow.{HintRow}
-use Rattle.facts.specs.declared.hint.HintMark.{HintMark}
 use Rattle.goals.specs.declared.goal.Goal.{Goal}
 use Rattle.goals.specs.declared.line.Line.{Line}
 use Rattle.derivation.specs.Derivations.{Setting}
@@ -16,9 +13,6 @@ use Rattle.derivation.specs.Known.{Piece}
 use Rattle.derivation.specs.Exists.{table_at}
 use Rattle.cert_bytes.specs.declared.item.Item.TheVariants as item
 use Rattle.cert_bytes.specs.declared.item.StepRow.{StepRow}
-use Rattle.cert_bytes.specs.declared.item.Item.{Item}
-use Rattle.cert_bytes.specs.Certificates.{AreDue}
-use Rattle.cert_bytes.specs.declared.order.DueItem.TheVariants.{Marks, Sections}
 use Rattle.cert_checker.specs.declared.subject.Subject.{Subject}
 use Rattle.cert_checker.specs.Contexts.{Context, open_piece}
 use Rattle.cert_checker.specs.Steps.{step_fact}
@@ -152,35 +146,3 @@ pub record WalksMove : Type 0 where
       IsRoot subject hints height most goals u.nodes
       (case + 1) (record { setting = later; tree = tree })
       → IsEntered later hints height most goals subject (case + 1) d tree [] 0 [])
-
--- ---- laws
-pub lead_both : (subject : Subject) (c d e : Context) (items more : List Item)
-    → LeadsTo subject c items d → LeadsTo subject d more e → LeadsTo subject c (items ++ more) e
-lead_both subject c d e [] more l m = subst (λ x. LeadsTo subject x more e) (sym l) m
-lead_both subject c d e (i ∷ items) more l m =
-    (l.0, lead_both subject (after c i) d e items more l.1 m)
-
-pub next_behind : (c : Context) (rows : List StepRow)
-    → (behind_steps c rows).next ≡ c.next + length rows
-next_behind c [] = omega arith
-next_behind c (row ∷ rows) = let h = next_behind (after c (item.Step row)) rows in omega (arith, h)
-
-pub marks_due : (rest : List HintMark) (more : List Item) → AreDue (Some (Marks zero)) more
-    → AreDue (Some (Marks (length rest))) (map item.Mark rest ++ more)
-marks_due [] more d = d
-marks_due (m ∷ rest) more d = ((tt, tt), marks_due rest more d)
-
-pub root_due : (items : List Item) → AreDue (Some (Sections 1)) items
-    → AreDue (Some (Marks zero)) items
-root_due [] d = cc
-root_due (item.Step r ∷ items) d = d
-root_due (item.Cut x ps ∷ items) d = let e : 0 + (length ps + 1) ≡ length ps + 1 = omega arith in
-    (d.0, subst (λ n. AreDue (Some (Sections n)) items) e d.1)
-root_due (item.Leaf refs ∷ items) d = d
-root_due (item.Dead r ∷ items) d = d
-root_due (item.Nodes n ∷ items) d = absurd d.1
-root_due (item.Node n ∷ items) d = absurd d.1
-root_due (item.Marks n ∷ items) d = absurd d.1
-root_due (item.Mark m ∷ items) d = absurd d.1
-root_due (item.Cases n ∷ items) d = absurd d.1
-root_due (item.End ∷ items) d = absurd d.1

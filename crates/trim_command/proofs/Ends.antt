@@ -6,9 +6,10 @@ use Rattle.command_line.specs.Trim.{AskedTrim}
 use Rattle.whole_texts.specs.Texts.{IsText}
 use Rattle.whole_texts.specs.declared.read.ReadStop.{ReadStop}
 use Rattle.whole_texts.specs.declared.read.ReadStop.TheVariants as stop
-use Rattle.command_runs.specs.Ends.{IsOnce, IsPutBy, IsStopPutBy, exhausted_runs, all_kept, left_so}
-use Rattle.command_runs.specs.Ends.{others_kept, or_unread, put_runs, run_by, starved_runs}
-use Rattle.command_runs.specs.Ends.{stop_runs, unread_kept, unread_once, unwritten_runs}
+use Rattle.command_runs.proofs.Ends.{IsOnce, IsPutBy, IsStopPutBy, exhausted_runs, all_kept}
+use Rattle.command_runs.proofs.Ends.{left_so, others_kept, or_unread, put_runs, run_by}
+use Rattle.command_runs.proofs.Ends.{starved_runs, stop_runs, unread_kept, unread_once}
+use Rattle.command_runs.proofs.Ends.{unwritten_runs}
 use Rattle.command_runs.specs.Fates.{AreTold, Fate, IsKeptFile, IsTold, Left, MayWrite, Runs, begun}
 use Rattle.command_runs.specs.Fates.{ending}
 use Rattle.command_runs.specs.Fates.Ending.{Done}
@@ -16,8 +17,8 @@ use Rattle.command_runs.specs.Fates.Left.{Kept, Whole}
 use Rattle.command_runs.specs.Runs.{Bytes, Told, Run, IsKept, IsSilent, ReadFailed, WriteFailed}
 use Rattle.command_runs.specs.declared.status.Status.{Status}
 use Rattle.command_runs.specs.declared.status.Status.TheVariants as status
-use Rattle.script_texts.specs.Texts.{IsLong, ReadsBehind, long_refused, no_script, told_script}
-use Rattle.script_texts.specs.Texts.{told_text}
+use Rattle.script_texts.proofs.Texts.{IsLong, long_refused, no_script, told_script, told_text}
+use Rattle.script_texts.specs.Texts.{ReadsBehind}
 use Rattle.check_command.specs.Laws.{IsCertTold}
 use Rattle.trim_command.specs.Command.{TrimFate, TrimTold, IsTrimRun}
 use Rattle.trim_command.specs.Laws.{AcceptableAreTrimmed, TrimAnswersAreOne}

@@ -6,7 +6,7 @@ use Rattle.fx_model.specs.Expression.{IsOrdered}
 use Rattle.pair_closure.specs.Reached.{Has, IsListOf}
 use Rattle.pair_closure.specs.Reached.IsReached.{begin}
 use Rattle.pair_closure.specs.Closure.{Pair, AreKnown, IsClosure}
-use Rattle.pair_closure.specs.Members.{has_left, has_right}
+use Rattle.pair_closure.proofs.Members.{has_left, has_right}
 use Rattle.facts.specs.declared.fact.Fact.{Fact}
 use Rattle.facts.specs.declared.hint.HintRow.{HintRow}
 use Rattle.facts.specs.Order.{slot_of}
@@ -18,10 +18,11 @@ use Rattle.script_grammar.specs.Names.{ClaimIsOf, NamesNodes}
 use Rattle.rule_instances.specs.Instances.{IsInstance}
 use Rattle.rule_instances.specs.InOrder.{instance_list}
 use Rattle.rule_universe.specs.Worlds.{World, HasSlot, IsWhole}
-use Rattle.rule_universe.specs.Wholes.{IsLicensed, licensed_whole}
+use Rattle.rule_universe.proofs.Wholes.{IsLicensed, licensed_whole}
 use Rattle.rewrite_hints.specs.Marks.{AreRows}
 use Rattle.universe.specs.Starts.{claims_pairs, hints_pairs, starting_pairs}
-use Rattle.universe.specs.Cases.{AreHypotheses, each_has}
+use Rattle.universe.specs.Cases.{AreHypotheses}
+use Rattle.universe.proofs.Cases.{each_has}
 use Rattle.universe.specs.Universes.{IsUniverse}
 use Rattle.universe.proofs.Named.{facts_slots, pairs_of_some, longer_by, rows_known}
 

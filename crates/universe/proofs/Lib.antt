@@ -2,3 +2,5 @@ pub mod Parts
 pub mod Named
 pub mod Built
 pub mod OneUniverse
+pub mod Cases
+pub mod Universes

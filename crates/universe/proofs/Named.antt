@@ -12,8 +12,8 @@ use Rattle.interval.specs.declared.interval.Interval.{Interval}
 use Rattle.expr_dag.specs.Nodes.{IsAt}
 use Rattle.pair_closure.specs.Reached.{Has}
 use Rattle.pair_closure.specs.Closure.{Pair, AreKnown, IsKnownPair}
-use Rattle.pair_closure.specs.Members.{none_at, some-inj, no_member, has_cases, has_all, has_left}
-use Rattle.pair_closure.specs.Members.{has_right, has_either}
+use Rattle.pair_closure.proofs.Members.{none_at, some-inj, no_member, has_cases, has_all, has_left}
+use Rattle.pair_closure.proofs.Members.{has_right, has_either}
 use Rattle.facts.specs.declared.fact.Fact.{Fact}
 use Rattle.facts.specs.declared.fact.Slot.TheVariants as slot
 use Rattle.facts.specs.declared.place.FixPlace.{FixPlace}
@@ -24,7 +24,7 @@ use Rattle.facts.specs.Order.{slot_of}
 use Rattle.facts.specs.Parts.{error_of_part}
 use Rattle.facts.specs.Conclusions.{bnd_of, fix_of}
 use Rattle.facts.specs.Places.{place_from}
-use Rattle.facts.specs.CommonParts.{stands, all_from}
+use Rattle.facts.proofs.CommonParts.{stands, all_from}
 use Rattle.script_bounds.specs.Bounds.{written_range, outward_of}
 use Rattle.script_claims.specs.declared.claim.Claim.{Claim}
 use Rattle.script_claims.specs.declared.claim.Claim.TheVariants.{Bounded, Asked, Relative}
@@ -38,7 +38,8 @@ use Rattle.script_hints.specs.Needs.{need_of}
 use Rattle.script_grammar.specs.Spells.{View}
 use Rattle.script_grammar.specs.Names.{AreNodes, ClaimIsOf, ConstraintIsOf, HintIsOf, NamesNodes}
 use Rattle.rule_universe.specs.Worlds.{IsSlot}
-use Rattle.rule_universe.specs.Licensed.{NeedIsKnown, RowIsKnown, kid}
+use Rattle.rule_universe.specs.Licensed.{NeedIsKnown, RowIsKnown}
+use Rattle.rule_universe.proofs.Licensed.{kid}
 use Rattle.rewrite_hints.specs.Marks.{AreRows, AreKnownSides}
 use Rattle.universe.specs.Starts.{sides_of, whole_difference, claim_pairs, claims_pairs, hint_pairs}
 use Rattle.universe.specs.Starts.{hints_pairs, starting_pairs}

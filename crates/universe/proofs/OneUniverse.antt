@@ -3,7 +3,7 @@ use Rattle.std.specs.Prelude.{◌≡◌}
 use Rattle.std.proofs.Common.{sym, ◌∙◌}
 use Rattle.pair_closure.specs.Closure.{ClosuresAreOne}
 use Rattle.rule_instances.specs.InOrder.{instance_list}
-use Rattle.rewrite_hints.specs.Marks.{rows_are_one}
+use Rattle.rewrite_hints.proofs.MarksLaws.{rows_are_one}
 use Rattle.universe.specs.Starts.{starting_pairs}
 use Rattle.universe.specs.Universes.{UniversesAreOne}
 

@@ -1,5 +1,5 @@
 -- The universe of a script.
-use Rattle.std.specs.Prelude.{◌≡◌, List, map, refl}
+use Rattle.std.specs.Prelude.{◌≡◌, List, map}
 use Rattle.pair_closure.specs.Reached.{Has, IsListOf}
 use Rattle.pair_closure.specs.Closure.{IsClosure, IsExpression, AreTooMany}
 use Rattle.script_claims.specs.declared.claim.Claim.{Claim}
@@ -9,7 +9,7 @@ use Rattle.script_grammar.specs.Names.{NamesNodes}
 use Rattle.rule_instances.specs.Instances.{IsInstance}
 use Rattle.rule_instances.specs.InOrder.{instance_list}
 use Rattle.rule_universe.specs.Worlds.{World}
-use Rattle.rule_universe.specs.Assumed.{assuming, HaveSlots}
+use Rattle.rule_universe.specs.Assumed.{HaveSlots}
 use Rattle.rewrite_hints.specs.Marks.{AreRows}
 use Rattle.universe.specs.Starts.{starting_pairs}
 use Rattle.universe.specs.Cases.{AreHypotheses}
@@ -26,19 +26,6 @@ pub record IsUniverse (s : View) (claims : List Claim) (u : World) : Type 0 wher
   pub hints : AreRows s.nodes s.hints.rewrites u.hints
   pub instances : IsListOf (IsInstance u.nodes (Has u.pairs) u.hints) u.instances
   pub order : u.instances ≡ instance_list u.nodes u.pairs u.hints
-
--- Other hypotheses make the universe of another case.
-pub assumed : (s : View) (u : World) (before claims : List Claim) → IsUniverse s before u
-    → AreHypotheses s claims → IsUniverse s claims (assuming u (facts_of claims))
-assumed s u before claims is are = record {
-  claims_are = are;
-  closure = is.closure;
-  goals = is.goals;
-  hypotheses = refl;
-  hints = is.hints;
-  instances = is.instances;
-  order = is.order;
-}
 
 -- The script has more than 1,024 expressions.
 abbrev pub IsTooLarge : View → Type 0

@@ -12,9 +12,9 @@ use Rattle.cert_bytes.specs.Styles.{seen_in}
 use Rattle.command_line.specs.Upgrade.{AskedUpgrade}
 use Rattle.whole_texts.specs.Pieces.{HoldsAll as HoldsWhole, HoldsFront as HoldsPart}
 use Rattle.whole_texts.specs.declared.read.ReadStop.TheVariants as reading
-use Rattle.command_runs.specs.Ends.{IsPutBy, IsLinePutBy, IsStopPutBy, IsOnce, put_runs, line_runs}
-use Rattle.command_runs.specs.Ends.{stop_runs, starved_runs, unwritten_runs, exhausted_runs}
-use Rattle.command_runs.specs.Ends.{all_kept, left_so, others_kept, run_by}
+use Rattle.command_runs.proofs.Ends.{IsPutBy, IsLinePutBy, IsStopPutBy, IsOnce, put_runs, line_runs}
+use Rattle.command_runs.proofs.Ends.{stop_runs, starved_runs, unwritten_runs, exhausted_runs}
+use Rattle.command_runs.proofs.Ends.{all_kept, left_so, others_kept, run_by}
 use Rattle.command_runs.specs.Fates.{Left, Fate, AreTold, Runs}
 use Rattle.command_runs.specs.Fates.Left.{Kept, Whole, Begun}
 use Rattle.command_runs.specs.Runs.{Bytes, Run, IsKept, IsSilent, ReadFailed, WriteFailed}

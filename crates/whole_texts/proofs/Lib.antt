@@ -1,2 +1,4 @@
 pub mod Reading
 pub mod Taking
+pub mod OnlyWrites
+pub mod Pieces

@@ -3,7 +3,8 @@ use Rattle.std.specs.Prelude.{ℕ, List, take, drop, Option, Result, Ok, Err, On
 use Rattle.std.proofs.Common.{sym}
 use Rattle.std.specs.Io.KnownBytes.{Appends, Keeps}
 use Rattle.std.proofs.lemmas.List.{take-append-drop}
-use Rattle.whole_texts.specs.Pieces.{AppendsFront, appends_kept}
+use Rattle.whole_texts.specs.Pieces.{AppendsFront}
+use Rattle.whole_texts.proofs.Pieces.{appends_kept}
 
 -- the first bytes were taken, and then a call failed
 pub on_failure : {T E : Type 0} (r : Result T E) (a b c : Option (List ℕ))

@@ -30,10 +30,6 @@ IsUpTo Above x = ⊤
 abbrev pub Lies : Range → Fraction → Type 0
 Lies r x = IsFrom r.low x × IsUpTo r.high x
 
--- a set of fractions, by its members
-abbrev pub Set : Type 1
-Set = Fraction → Type 0
-
 -- the greatest grid number that is at most every member, or minus infinity where there is none
 abbrev pub IsInfimum : (Fraction → Type 0) → Bound → Type 0
 IsInfimum S (At g) = IsOnGrid g × ((x : Fraction) → S x → g ≤ℚ x)

@@ -1,4 +1,4 @@
-use Rattle.script_cases.specs.Met.{met_in_some_case}
+use Rattle.script_cases.proofs.MetLaws.{met_in_some_case}
 use Rattle.script_claims.specs.Meets.{IsTrueAt}
 use Rattle.script_meets.proofs.HintsMet.{hints_are_met, needs_give_equal_sides}
 use Rattle.script_meets.proofs.met_scripts.Goals as goal

@@ -1,7 +1,8 @@
 use Rattle.std.proofs.Common.{◌≡◌, ◌<◌, ◌++◌, ◌∙◌, [], ◌∷◌, ap, arith, length, map, rules}
 use Rattle.std.proofs.Common.{string_bytes, subst, sym, take}
-use Rattle.fx_edge.specs.OnlyReads.{only_reads_on}
-use Rattle.fx_edge.specs.Outside.{Rose, rose_later}
+use Rattle.fx_edge.proofs.OnlyReads.{only_reads_on}
+use Rattle.fx_edge.specs.Outside.{Rose}
+use Rattle.fx_edge.proofs.OutsideLaws.{rose_later}
 use Rattle.whole_texts.specs.Texts.{IsText}
 use Rattle.command_runs.specs.Statuses.{read_fault_line}
 use Rattle.batch_command.specs.Told.{AreRead}

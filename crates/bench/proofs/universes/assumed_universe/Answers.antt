@@ -1,7 +1,8 @@
 use Rattle.std.proofs.Common.{sym, subst}
 use Rattle.std.proofs.lemmas.List.Elements.{recursion_from_All}
 use Rattle.script_claims.specs.Facts.{HasNormalBounds}
-use Rattle.universe.specs.Cases.{AreHypotheses, all_are}
+use Rattle.universe.specs.Cases.{AreHypotheses}
+use Rattle.universe.proofs.Cases.{all_are}
 use Rattle.bench.proofs.universes.assumed_universe.Goals as goal
 
 pub assume-requires-clause-claims : goal.assume-requires-clause-claims

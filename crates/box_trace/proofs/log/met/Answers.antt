@@ -1,7 +1,7 @@
 use Rattle.std.proofs.Common.{◌≡◌, true, false, sym, ◌∙◌}
 use Rattle.facts.specs.Order.{meet_of}
-use Rattle.facts.specs.Laws.{meet_exists}
-use Rattle.derivation.specs.Parts.{none_some}
+use Rattle.facts.proofs.Laws.{meet_exists}
+use Rattle.derivation.proofs.Parts.{none_some}
 use Rattle.box_trace.proofs.Stepped.{met_joined, met_with_step}
 use Rattle.box_trace.proofs.log.met.Goals as goal
 

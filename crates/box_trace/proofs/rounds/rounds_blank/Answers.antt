@@ -3,7 +3,7 @@ use Rattle.std.proofs.Common.{◌≡◌, ◌<◌, ◌+◌, ◌*◌, None, true, 
 use Rattle.facts.specs.declared.fact.Fact.TheVariants as fact
 use Rattle.facts.specs.declared.fact.Slot.TheVariants as slot
 use Rattle.derivation.specs.Rounds.{InTable, IsBestFrom}
-use Rattle.derivation.specs.Heights.{best_start, best_void}
+use Rattle.derivation.proofs.Heights.{best_start, best_void}
 use Rattle.saturate.specs.Universes.{setting_of}
 use Rattle.box_trace.specs.declared.log.Log.{Log}
 use Rattle.box_trace.specs.Tables.{known_at, HasRows}

@@ -1,6 +1,6 @@
 use Rattle.std.specs.Prelude.{map}
 use Rattle.std.proofs.Common.{ap, ◌∙◌}
-use Rattle.saturate.specs.Answered.{ok_map}
+use Rattle.saturate.proofs.Answered.{ok_map}
 use Rattle.box_trace.specs.Tables.{place_in}
 use Rattle.box_trace.proofs.scan.cite.Goals as goal
 

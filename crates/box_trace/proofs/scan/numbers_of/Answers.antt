@@ -2,7 +2,7 @@ use Rattle.std.proofs.Common.{◌++◌, [], ◌∷◌, map, take, slice_index_or
 use Rattle.std.proofs.lemmas.List.{map_more, take_all}
 use Rattle.std.proofs.lemmas.List.Elements.{Contains-get_or}
 use Rattle.rule_universe.specs.declared.placed.Placed.{Placed}
-use Rattle.rule_universe.specs.InTurn.{none_left}
+use Rattle.rule_universe.proofs.InTurn.{none_left}
 use Rattle.box_trace.specs.Tables.{place_in}
 use Rattle.box_trace.proofs.Taken.{map_slots}
 use Rattle.box_trace.proofs.scan.numbers_of.Goals as goal

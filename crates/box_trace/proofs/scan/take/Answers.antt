@@ -1,5 +1,5 @@
 use Rattle.std.proofs.Common.{ap, ◌∙◌, arith, length-set, length, Some, refl}
-use Rattle.rule_universe.specs.OnePlace.{place_within}
+use Rattle.rule_universe.proofs.OnePlace.{place_within}
 use Rattle.box_trace.proofs.Taken.{taken_beaten, taken_noted}
 use Rattle.box_trace.proofs.scan.take.Goals as goal
 

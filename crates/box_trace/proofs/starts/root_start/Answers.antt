@@ -7,15 +7,17 @@ use Rattle.facts.specs.declared.fact.Fact.{Fact}
 use Rattle.facts.specs.declared.fact.Fact.TheVariants as fact
 use Rattle.derivation.specs.Known.{IsGiven}
 use Rattle.derivation.specs.Rounds.{IsBlank}
-use Rattle.derivation.specs.Begun.{FirstHypotheses, FirstLines, gather_blank, gather_less}
-use Rattle.derivation.specs.Begun.{gather_hypothesis, gather_line, lines_none, lines_skip}
-use Rattle.derivation.specs.Parts.{none_some}
+use Rattle.derivation.specs.Begun.{FirstHypotheses, FirstLines}
+use Rattle.derivation.proofs.Begun.{gather_blank, gather_less, gather_hypothesis, gather_line}
+use Rattle.derivation.proofs.Begun.{lines_none, lines_skip}
+use Rattle.derivation.proofs.Parts.{none_some}
 use Rattle.saturate.specs.Universes.{setting_of}
 use Rattle.cert_checker.specs.declared.given.Given.TheVariants as given
 use Rattle.cert_checker.specs.Given.{given_number}
 use Rattle.box_trace.specs.declared.known.Known.{Known}
 use Rattle.box_trace.specs.Tables.{known_at, step_at}
-use Rattle.box_trace.specs.Rounds.{IsOfParent, variable_count, most_given, given_before}
+use Rattle.box_trace.specs.Rounds.{IsOfParent, variable_count, most_given}
+use Rattle.box_trace.proofs.RoundsLaws.{given_before}
 use Rattle.box_trace.proofs.Counted.{count_variable, count_other, count_all}
 use Rattle.box_trace.proofs.Added.{gives_none, gives_more, gives_slack, no_step}
 use Rattle.box_trace.proofs.Logged.{ComesGiven, comes_given, comes_improves}

@@ -4,7 +4,8 @@ use Rattle.derivation.specs.Begun.{IsGathered, FirstHypotheses, FirstLines}
 use Rattle.saturate.specs.Universes.{setting_of}
 use Rattle.box_trace.specs.Tables.{known_at}
 use Rattle.box_trace.specs.Boxes.{BeginsWithin}
-use Rattle.box_trace.specs.Rounds.{BeginsRootBy, given_before}
+use Rattle.box_trace.specs.Rounds.{BeginsRootBy}
+use Rattle.box_trace.proofs.RoundsLaws.{given_before}
 use Rattle.box_trace.proofs.starts.root_start.Given as goal
 
 abbrev pub invariant-loop-k : goal.invariant-loop-k

@@ -1,7 +1,7 @@
 use Rattle.std.proofs.Common.{inl, inr}
 use Rattle.derivation.specs.Known.{IsTableAt}
 use Rattle.saturate.specs.Universes.{setting_of}
-use Rattle.saturate.specs.Answered.{ok_map}
+use Rattle.saturate.proofs.Answered.{ok_map}
 use Rattle.box_trace.specs.Tables.{known_at}
 use Rattle.box_trace.proofs.Answered.{ok_both}
 use Rattle.box_trace.proofs.Given.{child_box, root_box}

@@ -1,5 +1,5 @@
 use Rattle.std.proofs.Common.{refl}
-use Rattle.derivation.specs.Begun.{child_table}
+use Rattle.derivation.proofs.Begun.{child_table}
 use Rattle.saturate.specs.Universes.{setting_of}
 use Rattle.box_trace.specs.Tables.{known_at}
 use Rattle.box_trace.proofs.Steps.{steps_below}

@@ -1,5 +1,5 @@
 use Rattle.std.proofs.Common.{length, ◌+◌, None}
-use Rattle.derivation.specs.Begun.{root_table}
+use Rattle.derivation.proofs.Begun.{root_table}
 use Rattle.saturate.specs.Universes.{setting_of}
 use Rattle.box_trace.specs.Tables.{known_at}
 use Rattle.box_trace.proofs.Steps.{root_steps}

@@ -5,7 +5,7 @@ use Rattle.std.proofs.lemmas.Option.{slice_get_read}
 use Rattle.facts.specs.declared.fact.Slot.TheVariants as slot
 use Rattle.facts.specs.Order.{slot_of}
 use Rattle.rule_universe.specs.Sizes.{beyond_four}
-use Rattle.saturate.specs.Lists.{none_in}
+use Rattle.saturate.proofs.Lists.{none_in}
 use Rattle.box_trace.specs.Tables.{known_at}
 use Rattle.box_trace.specs.Scans.{held, ends_in}
 use Rattle.box_trace.proofs.Scanned.{IsWritten, written_none, written_all}

@@ -7,7 +7,7 @@ use Rattle.rule_universe.specs.Placed.{slots_of, IsPlaced}
 use Rattle.saturate.specs.Universes.{setting_of}
 use Rattle.tree_certificates.specs.Writing.{IsWritable}
 use Rattle.box_trace.specs.Tables.{known_at, HasRows}
-use Rattle.box_trace.specs.Scans.{most_for}
+use Rattle.box_trace.proofs.Scans.{most_for}
 use Rattle.box_trace.specs.Rounds.{AddsSteps}
 use Rattle.box_trace.specs.Logs.{GoesOnFrom}
 use Rattle.box_trace.proofs.Beyond.{beyond_below}

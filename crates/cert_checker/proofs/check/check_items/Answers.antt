@@ -1,7 +1,7 @@
 use Rattle.std.proofs.Common.{rules, ◌≡◌, true, false}
 use Rattle.std.proofs.lemmas.Result.{err_from_is_err_and}
-use Rattle.fx_edge.specs.OnlyReads.{only_reads_on, only_reads_then, told_of}
-use Rattle.cert_bytes.specs.Calls.{reads_on_then}
+use Rattle.fx_edge.proofs.OnlyReads.{only_reads_on, only_reads_then, told_of}
+use Rattle.cert_bytes.proofs.Calls.{reads_on_then}
 use Rattle.cert_checker.specs.declared.lines.Lines.{Lines}
 use Rattle.cert_checker.proofs.Turns.{has_room, steady_on, reaches_on, stops, shows, shown_holds}
 use Rattle.cert_checker.proofs.Turns.{counts, marks_are, failed_so}

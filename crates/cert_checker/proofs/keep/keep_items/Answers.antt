@@ -1,13 +1,13 @@
 use Rattle.std.proofs.Common.{rules, ◌≡◌, ◌++◌, [], List, None, sym, ap, subst, true, false}
 use Rattle.std.proofs.Common.{append-nil}
 use Rattle.std.proofs.lemmas.Result.{err_from_is_err_and}
-use Rattle.fx_edge.specs.OnlyReads.{only_reads_none, only_reads_on, only_reads_then, told_of}
+use Rattle.fx_edge.proofs.OnlyReads.{only_reads_none, only_reads_on, only_reads_then, told_of}
 use Rattle.cert_bytes.specs.declared.item.Item.{Item}
 use Rattle.cert_bytes.specs.declared.order.DueItem.TheVariants.{Head}
 use Rattle.cert_bytes.specs.Certificates.{AreCertificate}
 use Rattle.cert_bytes.specs.Pieces.{cursor_of}
 use Rattle.cert_bytes.specs.ReadOut.{AreRead}
-use Rattle.cert_bytes.specs.Calls.{reads_on_then}
+use Rattle.cert_bytes.proofs.Calls.{reads_on_then}
 use Rattle.cert_checker.specs.declared.lines.Lines.{Lines}
 use Rattle.cert_checker.specs.declared.subject.Subject.{Subject}
 use Rattle.cert_checker.specs.Contexts.{Context, first}

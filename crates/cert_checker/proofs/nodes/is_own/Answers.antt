@@ -1,6 +1,7 @@
 use Rattle.std.proofs.Common.{sym, ap, ◌∙◌}
-use Rattle.expr_dag.specs.Shapes.{is_node, is_at_out}
-use Rattle.expr_dag.specs.Same.{itself}
+use Rattle.expr_dag.specs.Shapes.{is_node}
+use Rattle.expr_dag.proofs.Shapes.{is_at_out}
+use Rattle.expr_dag.proofs.Same.{itself}
 use Rattle.cert_checker.proofs.Judged.{is_true, true_is}
 use Rattle.cert_checker.proofs.nodes.is_own.Goals as goal
 

@@ -1,6 +1,6 @@
 use Rattle.std.proofs.Common.{refl, length}
 use Rattle.cert_bytes.specs.Styles.{seen_after}
-use Rattle.whole_texts.specs.OnlyWrites.{only_writes_on}
+use Rattle.whole_texts.proofs.OnlyWrites.{only_writes_on}
 use Rattle.cert_rewriting.proofs.Written.{on_err, writing_front}
 use Rattle.cert_rewriting.proofs.Turns.{turn_on, turn_breaks, spelled_later, steps_on, sections_on}
 use Rattle.cert_rewriting.proofs.writing.add_items.Goals as goal

@@ -1,7 +1,7 @@
 use Rattle.std.specs.Prelude.{◌≡◌, false, true, Err, refl}
 use Rattle.std.proofs.Common.{◌∙◌, ap, arith, rules}
 use Rattle.std.proofs.lemmas.Result.{err_from_is_err_and}
-use Rattle.fx_edge.specs.OnlyReads.{only_reads_none, only_reads_on, only_reads_then, told_of}
+use Rattle.fx_edge.proofs.OnlyReads.{only_reads_none, only_reads_on, only_reads_then, told_of}
 use Rattle.cert_bytes.specs.Readers.{Progress}
 use Rattle.cert_upgrade.proofs.Measured.{measured_none, measured_turn, measured_all}
 use Rattle.cert_upgrade.proofs.Read.{read_none, read_fault, not_done, fewer_turns}

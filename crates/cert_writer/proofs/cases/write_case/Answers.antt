@@ -5,8 +5,8 @@ use Rattle.script_claims.specs.Facts.{HasNormalBounds, facts_of}
 use Rattle.script_grammar.specs.Cases.{cases_of}
 use Rattle.rule_universe.specs.Assumed.{assuming}
 use Rattle.universe.specs.Cases.{AreHypotheses}
-use Rattle.settler.specs.Cases.{case_of}
-use Rattle.cert_writer.specs.Files.{on_err}
+use Rattle.settler.proofs.CasesLaws.{case_of}
+use Rattle.cert_writer.proofs.Files.{on_err}
 use Rattle.cert_writer.specs.Cases.{bare, task, target_of, StandsAt, OfStanding, GrewFront}
 use Rattle.cert_writer.proofs.NextCase.{drop_there, still, is_course, is_before, past_case}
 use Rattle.cert_writer.proofs.NextCase.{front_case}

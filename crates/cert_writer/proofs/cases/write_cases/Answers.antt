@@ -2,10 +2,10 @@ use Rattle.std.specs.Prelude.{◌+◌, refl}
 use Rattle.std.proofs.Common.{sym, ◌∙◌, subst, arith}
 use Rattle.std.proofs.lemmas.List.{drop_all}
 use Rattle.script_grammar.specs.Cases.{cases_of}
-use Rattle.settler.specs.Cases.{as_many}
+use Rattle.settler.proofs.CasesLaws.{as_many}
 use Rattle.cert_bytes.specs.Styles.{none_seen}
-use Rattle.whole_texts.specs.OnlyWrites.{only_writes_none, only_writes_on}
-use Rattle.cert_writer.specs.Files.{on_err}
+use Rattle.whole_texts.proofs.OnlyWrites.{only_writes_none, only_writes_on}
+use Rattle.cert_writer.proofs.Files.{on_err}
 use Rattle.cert_writer.specs.Cases.{bare, task, whole_aim, StandsAt, StandsBefore, OfStanding}
 use Rattle.cert_writer.specs.Cases.{GrewFront}
 use Rattle.cert_writer.proofs.NextCase.{grew_none}

@@ -4,7 +4,7 @@ use Rattle.std.proofs.Common.{◌∙◌, ap, subst, refl}
 use Rattle.cert_bytes.specs.declared.item.Item.TheVariants as item
 use Rattle.cert_bytes.specs.Spelling.{spelling_of}
 use Rattle.whole_texts.specs.Pieces.{AppendsFront}
-use Rattle.cert_writer.specs.Files.{on_err}
+use Rattle.cert_writer.proofs.Files.{on_err}
 use Rattle.cert_writer.proofs.Turn.{appends_none}
 use Rattle.cert_writer.proofs.cases.write_end.Goals as goal
 

@@ -2,7 +2,8 @@ use Rattle.std.specs.Prelude.{◌≡◌, ◌<◌, ◌+◌, ◌++◌, [], ◌∷�
 use Rattle.std.proofs.Common.{sym, ◌∙◌, ap, subst, arith}
 use Rattle.std.proofs.lemmas.List.{take_more, length-take}
 use Rattle.cert_bytes.specs.declared.style.Seen.{Seen}
-use Rattle.cert_bytes.specs.Styles.{seen_after, seen_behind, seen_both}
+use Rattle.cert_bytes.specs.Styles.{seen_after, seen_behind}
+use Rattle.cert_bytes.proofs.Styles.{seen_both}
 use Rattle.cert_bytes.specs.Spelling.{spelling_of, spelled_behind}
 use Rattle.cert_writer.proofs.Seen.{seen_few}
 use Rattle.cert_writer.proofs.Spelled.{spelled_more}

@@ -1,11 +1,11 @@
 use Rattle.std.specs.Prelude.{◌≡◌, ◌<◌, ◌+◌, ◌-◌, [], ◌∷◌, length, refl}
 use Rattle.std.proofs.Common.{arith, ap, ◌∙◌}
 use Rattle.std.proofs.lemmas.List.{length-append}
-use Rattle.whole_texts.specs.OnlyWrites.{only_writes_on}
+use Rattle.whole_texts.proofs.OnlyWrites.{only_writes_on}
 use Rattle.cert_writer.specs.Courses.{course, OnCourses, GrewToFront}
 use Rattle.cert_writer.proofs.Turn.{begun_later, child_of, turn}
 use Rattle.cert_writer.proofs.walk.+write_box.Goals as goal
-use Rattle.cert_writer.specs.Files.{on_err}
+use Rattle.cert_writer.proofs.Files.{on_err}
 
 pub write_box-requires : goal.write_box-requires
 write_box-requires g t c κs within =

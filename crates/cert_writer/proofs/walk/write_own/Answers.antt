@@ -2,7 +2,7 @@ use Rattle.std.specs.Prelude.{refl}
 use Rattle.std.specs.Io.KnownBytes.{Appends}
 use Rattle.std.proofs.Common.{subst}
 use Rattle.whole_texts.specs.Pieces.{AppendsFront}
-use Rattle.cert_writer.specs.Files.{on_err}
+use Rattle.cert_writer.proofs.Files.{on_err}
 use Rattle.cert_writer.specs.Courses.{course, OnCourses, GrewToFront}
 use Rattle.cert_writer.proofs.Turn.{begun_still}
 use Rattle.cert_writer.proofs.walk.write_own.Goals as goal

@@ -2,10 +2,11 @@ use Rattle.std.specs.Prelude.{length, refl}
 use Rattle.std.specs.Io.KnownBytes.{Appends}
 use Rattle.std.proofs.Common.{◌∙◌, subst, arith}
 use Rattle.script_grammar.specs.Cases.{cases_of}
-use Rattle.settler.specs.Cases.{as_many}
+use Rattle.settler.proofs.CasesLaws.{as_many}
 use Rattle.whole_texts.specs.Pieces.{AppendsFront}
-use Rattle.cert_writer.specs.Files.{on_err}
-use Rattle.cert_writer.specs.Cases.{bare, subject_in, task}
+use Rattle.cert_writer.proofs.Files.{on_err}
+use Rattle.cert_writer.specs.Cases.{bare, task}
+use Rattle.cert_writer.proofs.CasesLaws.{subject_in}
 use Rattle.cert_writer.specs.Written.{OfProved, HoldsFront}
 use Rattle.cert_writer.proofs.Start.{is_subject, as_planned, start, head_of}
 use Rattle.cert_writer.proofs.Held.{head_spelled, not_fresh, not_headed, half_headed, broken_off}

@@ -1,5 +1,5 @@
 use Rattle.std.proofs.Common.{Err}
-use Rattle.cert_checker.specs.Checking.{is_fresh}
+use Rattle.cert_checker.proofs.Checking.{is_fresh}
 use Rattle.check_command.proofs.Checked.{accepted_prints, unread_prints, refused_prints}
 use Rattle.check_command.proofs.Complete.{answers_accepted, not_unread, not_refused}
 use Rattle.check_command.proofs.check.check_certificate.Goals as goal

@@ -1,8 +1,8 @@
 use Rattle.std.proofs.Common.{Err, ap, rules, subst, ◌∙◌}
-use Rattle.fx_edge.specs.Outside.{rose_later}
+use Rattle.fx_edge.proofs.OutsideLaws.{rose_later}
 use Rattle.command_line.specs.Check.{check_of}
 use Rattle.whole_texts.specs.Texts.{IsText}
-use Rattle.command_runs.specs.Ends.{IsPutBy}
+use Rattle.command_runs.proofs.Ends.{IsPutBy}
 use Rattle.command_runs.specs.Runs.{Run, run, seen}
 use Rattle.check_command.specs.Checked.{CheckPrints}
 use Rattle.check_command.proofs.Ends.{put_is, script_stop_is, cert_stop_is}

@@ -1,4 +1,4 @@
-use Rattle.derivation.specs.States.{state_in-is, state_once}
+use Rattle.derivation.proofs.States.{state_in-is, state_once}
 use Rattle.derivation.proofs.laws.boxes_come_to_one_state.Goals as goal
 
 pub returns : goal.returns

@@ -1,4 +1,4 @@
-use Rattle.derivation.specs.Sets.{known_more, state_same}
+use Rattle.derivation.proofs.Sets.{known_more, state_same}
 use Rattle.derivation.proofs.laws.known_facts_are_of_sets.Goals as goal
 
 pub returns : goal.returns

@@ -1,4 +1,5 @@
-use Rattle.dyadic.specs.Values.{value_of, on_grid}
+use Rattle.dyadic.specs.Values.{value_of}
+use Rattle.dyadic.proofs.Values.{on_grid}
 use Rattle.dyadic.specs.Middle.{halfway}
 use Rattle.dyadic.proofs.MiddleLemmas.{low_half, high_half, lower_middle, upper_middle, no_middle}
 use Rattle.dyadic.proofs.MiddleLemmas.{refused}

@@ -1,4 +1,5 @@
-use Rattle.dyadic.specs.Values.{value_of, on_grid}
+use Rattle.dyadic.specs.Values.{value_of}
+use Rattle.dyadic.proofs.Values.{on_grid}
 use Rattle.dyadic.proofs.middle.up_to.Goals as goal
 
 pub returns-in-Low : goal.returns-in-Low

@@ -1,4 +1,5 @@
-use Rattle.dyadic.specs.Values.{value_of, on_grid}
+use Rattle.dyadic.specs.Values.{value_of}
+use Rattle.dyadic.proofs.Values.{on_grid}
 use Rattle.dyadic.proofs.NumberLemmas.{exact_down, sign_exact}
 use Rattle.dyadic.proofs.rounding.down.Goals as goal
 

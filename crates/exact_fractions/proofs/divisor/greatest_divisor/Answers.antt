@@ -1,6 +1,6 @@
 use Rattle.std.proofs.Common.{arith, sym}
 use Rattle.std.proofs.lemmas.Nat.Gcd.{IsGcd-from_zero, IsGcd-from_mod}
-use Rattle.exact_fractions.specs.Divisors.{gcd_of}
+use Rattle.exact_fractions.proofs.Divisors.{gcd_of}
 use Rattle.exact_fractions.proofs.divisor.greatest_divisor.Goals as goal
 
 pub loop-y-preserved : goal.loop-y-preserved

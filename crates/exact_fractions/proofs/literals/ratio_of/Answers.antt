@@ -1,9 +1,9 @@
 use Rattle.std.proofs.Common.{◌^◌, ◌<ℤ◌, ◌≤ℤ◌, pos, arith, ap, ◌∙◌}
 use Rattle.std.specs.Int.RustNames.{unsigned_abs}
 use Rattle.std.proofs.lemmas.Int.{ints}
-use Rattle.literal.specs.Limits.{bounded}
-use Rattle.interval.specs.Written.{ten_is, power_fits, divisor_fits, divisor_some, with_tens_small}
-use Rattle.interval.specs.Written.{value_down, value_up}
+use Rattle.literal.proofs.Limits.{bounded}
+use Rattle.interval.proofs.Written.{ten_is, power_fits, divisor_fits, divisor_some, with_tens_small}
+use Rattle.interval.proofs.Written.{value_down, value_up}
 use Rattle.exact_fractions.proofs.literals.ratio_of.Goals as goal
 
 pub pow-power-requires : goal.pow-power-requires

@@ -3,7 +3,7 @@ use Rattle.std.specs.Int.{w128}
 use Rattle.std.specs.Prelude.{ℤ, ◌<◌, ◌^◌}
 use Rattle.std.specs.Int.RustNames.{unsigned_abs}
 use Rattle.std.proofs.lemmas.Int.{ints}
-use Rattle.rounding.specs.Chosen.{chosen_is}
+use Rattle.rounding.proofs.Chosen.{chosen_is}
 use Rattle.exact_fractions.specs.Beside.{as_neighbours}
 use Rattle.exact_fractions.proofs.Sides.{chosen_one}
 use Rattle.exact_fractions.proofs.roundings.whole_for.Goals as goal

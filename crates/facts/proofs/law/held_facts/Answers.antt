@@ -1,4 +1,4 @@
-use Rattle.facts.specs.Held.{IsStronger-Holds, meet-Holds}
+use Rattle.facts.proofs.Held.{IsStronger-Holds, meet-Holds}
 use Rattle.facts.proofs.law.held_facts.Goals as goal
 
 pub returns : goal.returns

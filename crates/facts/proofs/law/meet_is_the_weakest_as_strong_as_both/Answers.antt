@@ -1,5 +1,5 @@
-use Rattle.facts.specs.Laws.{IsStronger-meet}
-use Rattle.facts.specs.Meets.{meet-IsMeet, meet-exchanged, meet-stronger}
+use Rattle.facts.proofs.Laws.{IsStronger-meet}
+use Rattle.facts.proofs.Meets.{meet-IsMeet, meet-exchanged, meet-stronger}
 use Rattle.facts.proofs.law.meet_is_the_weakest_as_strong_as_both.Goals as goal
 
 pub returns : goal.returns

@@ -1,4 +1,4 @@
-use Rattle.facts.specs.Within.{size_within-none, size_within-some}
+use Rattle.facts.proofs.Within.{size_within-none, size_within-some}
 use Rattle.facts.proofs.law.sizes_within_an_interval.Goals as goal
 
 pub returns : goal.returns

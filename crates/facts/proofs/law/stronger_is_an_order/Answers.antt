@@ -1,5 +1,5 @@
-use Rattle.facts.specs.Laws.{IsStronger-refl, IsStronger-trans, IsStronger-slot}
-use Rattle.facts.specs.Meets.{IsStronger-antisymm}
+use Rattle.facts.proofs.Laws.{IsStronger-refl, IsStronger-trans, IsStronger-slot}
+use Rattle.facts.proofs.Meets.{IsStronger-antisymm}
 use Rattle.facts.proofs.law.stronger_is_an_order.Goals as goal
 
 pub returns : goal.returns

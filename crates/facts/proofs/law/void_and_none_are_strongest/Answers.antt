@@ -1,6 +1,6 @@
 use Rattle.std.proofs.Common.{refl}
 use Rattle.facts.specs.declared.fact.Fact.TheVariants as fact
-use Rattle.facts.specs.Meets.{IsStronger-antisymm}
+use Rattle.facts.proofs.Meets.{IsStronger-antisymm}
 use Rattle.facts.proofs.law.void_and_none_are_strongest.Goals as goal
 
 pub returns : goal.returns

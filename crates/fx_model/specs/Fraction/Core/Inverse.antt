@@ -7,7 +7,6 @@ use Rattle.std.proofs.Math.Nat.{mul-pos}
 use Rattle.std.proofs.lemmas.Bool.{cases_lt}
 use Rattle.fx_model.specs.Fraction.Core.{Ratio, Same, Fraction, ◌*ℚ◌, neg_ℚ, le_ℚ, ◌≤ℚ◌, ◌<ℚ◌}
 use Rattle.fx_model.specs.Fraction.Core.{by_ratio, Fraction-set, of_ratio, zero_ℚ, one_ℚ}
-use Rattle.fx_model.specs.Fraction.Core.Ring.{mul_comm, mul_assoc, one-mul}
 use Rattle.fx_model.specs.Fraction.Core.Order.{le_refl, le_antisymm}
 
 -- ---- absolute value, quotient
@@ -110,13 +109,10 @@ inverse_ℚ x = lift (Quot-set {r = Same}) (λ a. mk (inverse_ratio a))
     (λ a b h. sound {r = Same} (inverse_same a b h)) x
 
 infixl 7 ◌/ℚ◌
+
 -- The quotient of two fractions, exactly; a quotient by 0 is 0.
 abbrev pub ◌/ℚ◌ : Fraction → Fraction → Fraction
 x /ℚ y = x *ℚ inverse_ℚ y
-
-full_square : (p n d : ℕ) → (p ≡ 0) ⊎ (n ≡ 0) → 0 < p + n
-    → (p * (d * p) + n * (d * n)) * 1 ≡ d * square_ratio p n
-full_square p n d s h = let z : 1 - (p + n) ≡ 0 = omega arith in rw z (omega arith)
 
 -- ---- x * (1 / x) = 1
 product_one : (a m p n d : ℕ) → a + n ≡ m + p → p * n ≡ 0 → 0 < p + n → (a * (d * p) + m * (d * n))
@@ -173,11 +169,3 @@ is_zero_out x h = by (le_ℚ x zero_ℚ) (le_ℚ zero_ℚ x) refl refl h
     by true true p q h = le_antisymm x zero_ℚ (record { le = p }) (record { le = q })
     by true false p q h = cc
     by false b p q h = cc
-
-pub is_zero_not : (x : Fraction) → is_zero_ℚ x ≡ false → ¬ (x ≡ zero_ℚ)
-is_zero_not x h e = let k : true ≡ false = sym is_zero-zero ∙ ap is_zero_ℚ (sym e) ∙ h in cc
-
--- ---- a quotient times its divisor
-pub div-mul : (x y : Fraction) → ¬ (y ≡ zero_ℚ) → (x /ℚ y) *ℚ y ≡ x
-div-mul x y h = mul_assoc x (inverse_ℚ y) y
-    ∙ ap (λ z. x *ℚ z) (mul_comm (inverse_ℚ y) y ∙ mul-inverse y h) ∙ mul_comm x one_ℚ ∙ one-mul x

@@ -1,48 +1,19 @@
 -- What follows at once from the laws of a ring and of its order.
 use Rattle.std.specs.Prelude.{◌≡◌}
 use Rattle.std.proofs.Common.{sym, ap, ◌∙◌, subst}
-use Rattle.fx_model.specs.Fraction.Core.{Fraction, ◌+ℚ◌, ◌*ℚ◌, neg_ℚ, ◌≤ℚ◌, ◌<ℚ◌, zero_ℚ, one_ℚ}
-use Rattle.fx_model.specs.Fraction.Core.{◌-ℚ◌}
+use Rattle.fx_model.specs.Fraction.Core.{Fraction, ◌+ℚ◌, ◌*ℚ◌, neg_ℚ, ◌≤ℚ◌, ◌<ℚ◌, zero_ℚ}
 use Rattle.fx_model.specs.Fraction.Core.Ring.{add_comm, add_assoc, zero-add, add-neg, mul_comm}
-use Rattle.fx_model.specs.Fraction.Core.Ring.{mul_assoc, one-mul, zero-mul, mul-add, neg-mul}
-use Rattle.fx_model.specs.Fraction.Core.Ring.{neg-neg}
+use Rattle.fx_model.specs.Fraction.Core.Ring.{neg-mul, neg-neg}
 use Rattle.fx_model.specs.Fraction.Core.Order.{add-le, lt_by, lt_not, lt_le, mul-le, mul-le_cancel}
 use Rattle.fx_model.specs.Fraction.Core.Order.{neg-le}
 
 -- ---- sums
-pub add-zero : (x : Fraction) → x +ℚ zero_ℚ ≡ x
-add-zero x = add_comm x zero_ℚ ∙ zero-add x
-
 -- - a + (a + b) = b
 pub add-sub : (a b : Fraction) → neg_ℚ a +ℚ (a +ℚ b) ≡ b
 add-sub a b =
     sym (add_assoc (neg_ℚ a) a b) ∙ ap (λ z. z +ℚ b) (add_comm (neg_ℚ a) a ∙ add-neg a) ∙ zero-add b
 
--- (a + b) + (c + d) = (a + c) + (b + d)
-pub middle_sums : (a b c d : Fraction) → (a +ℚ b) +ℚ (c +ℚ d) ≡ (a +ℚ c) +ℚ (b +ℚ d)
-middle_sums a b c d = add_assoc a b (c +ℚ d) ∙ ap (λ u. a +ℚ u) (sym (add_assoc b c d)
-    ∙ ap (λ u. u +ℚ d) (add_comm b c) ∙ add_assoc c b d) ∙ sym (add_assoc a c (b +ℚ d))
-
 -- ---- products
-pub mul-one : (x : Fraction) → x *ℚ one_ℚ ≡ x
-mul-one x = mul_comm x one_ℚ ∙ one-mul x
-
-pub mul-zero : (x : Fraction) → x *ℚ zero_ℚ ≡ zero_ℚ
-mul-zero x = mul_comm x zero_ℚ ∙ zero-mul x
-
-pub add-mul : (x y z : Fraction) → (x +ℚ y) *ℚ z ≡ (x *ℚ z) +ℚ (y *ℚ z)
-add-mul x y z = mul_comm (x +ℚ y) z ∙ mul-add z x y ∙ ap (λ u. u +ℚ (z *ℚ y)) (mul_comm z x)
-    ∙ ap (λ u. (x *ℚ z) +ℚ u) (mul_comm z y)
-
--- x(yz) = y(xz)
-pub left_swap : (x y z : Fraction) → x *ℚ (y *ℚ z) ≡ y *ℚ (x *ℚ z)
-left_swap x y z = sym (mul_assoc x y z) ∙ ap (λ u. u *ℚ z) (mul_comm x y) ∙ mul_assoc y x z
-
--- (ab)(cd) = (ac)(bd)
-pub middle_products : (a b c d : Fraction) → (a *ℚ b) *ℚ (c *ℚ d) ≡ (a *ℚ c) *ℚ (b *ℚ d)
-middle_products a b c d = mul_assoc a b (c *ℚ d) ∙ ap (λ u. a *ℚ u) (left_swap b c d)
-    ∙ sym (mul_assoc a c (b *ℚ d))
-
 pub mul-neg : (x y : Fraction) → x *ℚ neg_ℚ y ≡ neg_ℚ (x *ℚ y)
 mul-neg x y = mul_comm x (neg_ℚ y) ∙ neg-mul y x ∙ ap neg_ℚ (mul_comm y x)
 
@@ -68,9 +39,6 @@ pub neg-le_out : (x y : Fraction) → neg_ℚ x ≤ℚ neg_ℚ y → y ≤ℚ x
 neg-le_out x y h = subst (λ z. z ≤ℚ x) (neg-neg y)
     (subst (λ z. neg_ℚ (neg_ℚ y) ≤ℚ z) (neg-neg x) (neg-le (neg_ℚ x) (neg_ℚ y) h))
 
-pub neg-lt : (x y : Fraction) → x <ℚ y → neg_ℚ y <ℚ neg_ℚ x
-neg-lt x y h = lt_by (neg_ℚ y) (neg_ℚ x) (λ k. lt_not x y h (neg-le_out x y k))
-
 -- ---- the other side of 0
 pub neg_zero : neg_ℚ zero_ℚ ≡ zero_ℚ
 neg_zero = sym (zero-add (neg_ℚ zero_ℚ)) ∙ add-neg zero_ℚ
@@ -80,9 +48,3 @@ neg_up v h = subst (λ z. z ≤ℚ neg_ℚ v) neg_zero (neg-le v zero_ℚ h)
 
 pub neg_down : (v : Fraction) → zero_ℚ ≤ℚ v → neg_ℚ v ≤ℚ zero_ℚ
 neg_down v h = subst (λ z. neg_ℚ v ≤ℚ z) neg_zero (neg-le zero_ℚ v h)
-
--- ---- differences
--- (a - b) + b = a
-pub sub-add : (a b : Fraction) → (a -ℚ b) +ℚ b ≡ a
-sub-add a b =
-    add_assoc a (neg_ℚ b) b ∙ ap (λ z. a +ℚ z) (add_comm (neg_ℚ b) b ∙ add-neg b) ∙ add-zero a

@@ -152,14 +152,6 @@ mul-le_cancel = by_ratio (λ z. (x y : Fraction) → zero_ℚ <ℚ z → z *ℚ 
     (unrearranged a.plus a.minus _ _ (omega arith)
     (cancel_le a.den _ _ a.positive (omega arith))))))
 
-pub mul-lt_cancel : (z x y : Fraction) → zero_ℚ ≤ℚ z → z *ℚ x <ℚ z *ℚ y → x <ℚ y
-mul-lt_cancel z x y p h = lt_by x y (λ k. lt_not (z *ℚ x) (z *ℚ y) h (mul-le z y x p k))
-
-pub mul_cancel : (z x y : Fraction) → zero_ℚ <ℚ z → z *ℚ x ≡ z *ℚ y → x ≡ y
-mul_cancel z x y p h =
-    le_antisymm x y (mul-le_cancel z x y p (subst (λ w. z *ℚ x ≤ℚ w) h (le_refl (z *ℚ x))))
-    (mul-le_cancel z y x p (subst (λ w. w ≤ℚ z *ℚ x) h (le_refl (z *ℚ x))))
-
 pub neg-le : (x y : Fraction) → x ≤ℚ y → neg_ℚ y ≤ℚ neg_ℚ x
 unfolding neg_ℚ
 neg-le = by_ratio (λ x. (y : Fraction) → x ≤ℚ y

@@ -1,5 +1,5 @@
 use Rattle.std.proofs.Common.{refl, rules, subst}
-use Rattle.command_runs.specs.Ends.{IsPutBy}
+use Rattle.command_runs.proofs.Ends.{IsPutBy}
 use Rattle.command_runs.specs.Runs.{Run, run, seen}
 use Rattle.gen_command.proofs.Ends.{put_is}
 use Rattle.gen_command.proofs.command.run_gen.Goals as goal

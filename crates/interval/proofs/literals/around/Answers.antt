@@ -3,7 +3,7 @@ use Rattle.std.specs.Int.{w128}
 use Rattle.std.proofs.lemmas.Int.{ints}
 use Rattle.fx_model.specs.Powers.{scaled}
 use Rattle.dyadic.specs.Ends.{bound_of}
-use Rattle.interval.specs.Written.{alone_enclosed, rounded_ordered, restated}
+use Rattle.interval.proofs.Written.{alone_enclosed, rounded_ordered, restated}
 use Rattle.interval.proofs.literals.around.Goals as goal
 
 pub returns : goal.returns

@@ -5,9 +5,9 @@ use Rattle.std.proofs.lemmas.Int.{ints}
 use Rattle.fx_model.specs.Powers.{whole}
 use Rattle.fx_model.specs.Grid.{signed}
 use Rattle.fx_model.specs.Expression.{literal_value}
-use Rattle.literal.specs.Limits.{bounded}
-use Rattle.interval.specs.Written.{ten_is, two_is, power_fits, divisor_fits, divisor_some}
-use Rattle.interval.specs.Written.{with_tens_small, value_down, value_up, signed_ratio, restated}
+use Rattle.literal.proofs.Limits.{bounded}
+use Rattle.interval.proofs.Written.{ten_is, two_is, power_fits, divisor_fits, divisor_some}
+use Rattle.interval.proofs.Written.{with_tens_small, value_down, value_up, signed_ratio, restated}
 use Rattle.interval.proofs.literals.around_literal.Goals as goal
 
 pub pow-power-requires : goal.pow-power-requires

@@ -1,6 +1,6 @@
 use Rattle.fx_model.specs.Grid.{signed}
 use Rattle.fx_model.specs.Expression.{literal_value}
-use Rattle.interval.specs.Results.{point_only}
+use Rattle.interval.proofs.Results.{point_only}
 use Rattle.interval.proofs.literals.enclose.Goals as goal
 
 pub returns-clause-is : goal.returns-clause-is

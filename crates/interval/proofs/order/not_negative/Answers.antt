@@ -1,6 +1,6 @@
 use Rattle.std.proofs.Common.{arith}
 use Rattle.std.proofs.lemmas.Int.{ints}
-use Rattle.fx_model.specs.Powers.{scaled_up, scaled_up_out}
+use Rattle.fx_model.proofs.Powers.{scaled_up, scaled_up_out}
 use Rattle.interval.proofs.order.not_negative.Goals as goal
 
 pub returns : goal.returns

@@ -1,6 +1,6 @@
 use Rattle.std.proofs.Common.{arith}
 use Rattle.std.proofs.lemmas.Int.{ints}
-use Rattle.fx_model.specs.Powers.{scaled_down, scaled_down_out}
+use Rattle.fx_model.proofs.Powers.{scaled_down, scaled_down_out}
 use Rattle.interval.proofs.order.not_positive.Goals as goal
 
 pub returns : goal.returns

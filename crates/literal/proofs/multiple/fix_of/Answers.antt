@@ -2,7 +2,7 @@ use Rattle.std.proofs.Common.{◌≡◌, ◌<◌, ◌^◌, ℤ, pos, arith, rule
 use Rattle.std.proofs.Common.{true≢false, refl, sym, ◌∙◌}
 use Rattle.std.proofs.lemmas.Int.{ints}
 use Rattle.literal.specs.Normal.{IsFix, HasFives, IsCapped}
-use Rattle.literal.specs.Limits.{bounded}
+use Rattle.literal.proofs.Limits.{bounded}
 use Rattle.literal.proofs.Fixes.{fix_zero, fix_found, no_fix, is_some}
 use Rattle.literal.proofs.multiple.fix_of.Goals as goal
 

@@ -1,6 +1,6 @@
 use Rattle.std.proofs.Common.{◌<◌, ℕ, subst, sym, arith, lit<}
 use Rattle.std.proofs.lemmas.Int.{ints}
-use Rattle.literal.specs.Tens.{pow_positive}
+use Rattle.literal.proofs.Tens.{pow_positive}
 use Rattle.literal.proofs.Fixes.{five_fits}
 use Rattle.literal.proofs.multiple.has_fives.Goals as goal
 

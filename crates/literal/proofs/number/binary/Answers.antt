@@ -1,4 +1,4 @@
-use Rattle.literal.specs.Tens.{few_digits}
+use Rattle.literal.proofs.Tens.{few_digits}
 use Rattle.literal.proofs.number.binary.Goals as goal
 
 pub returns-in_default-clause-written : goal.returns-in_default-clause-written

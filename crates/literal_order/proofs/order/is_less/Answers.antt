@@ -1,8 +1,8 @@
 use Rattle.std.proofs.Common.{◌≡◌, ◌+ℤ◌, pos, arith}
 use Rattle.std.proofs.lemmas.Int.{ints}
 use Rattle.fx_model.specs.Expression.{literal_value}
-use Rattle.literal.specs.Limits.{bounded}
-use Rattle.interval.specs.Written.{two_is}
+use Rattle.literal.proofs.Limits.{bounded}
+use Rattle.interval.proofs.Written.{two_is}
 use Rattle.literal_order.proofs.Ratios.{IsRatio, across_above, across_below}
 use Rattle.literal_order.proofs.order.is_less.Goals as goal
 

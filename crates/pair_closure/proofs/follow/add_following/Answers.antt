@@ -1,7 +1,7 @@
 use Rattle.std.proofs.Common.{◌≡◌, sym}
 use Rattle.std.proofs.lemmas.Result.{on_ok_weaker}
 use Rattle.pair_closure.proofs.Following.{follow_same, follow_apart}
-use Rattle.pair_closure.specs.Ids.{same_ids, apart_ids, same_at}
+use Rattle.pair_closure.proofs.Ids.{same_ids, apart_ids, same_at}
 use Rattle.pair_closure.proofs.follow.add_following.Goals as goal
 
 pub returns-then-eq : goal.returns-then-eq

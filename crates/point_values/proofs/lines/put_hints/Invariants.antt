@@ -1,5 +1,5 @@
 use Rattle.point_values.specs.Known.{values_of}
-use Rattle.point_values.specs.Along.{IsAlong}
+use Rattle.point_values.proofs.Along.{IsAlong}
 use Rattle.point_values.proofs.lines.put_hints.Given as goal
 
 abbrev pub invariant-loop-number : goal.invariant-loop-number

@@ -1,6 +1,6 @@
 use Rattle.std.proofs.Common.{◌≡◌, ap, ◌∙◌, sym, subst, map, arith, Some, ◌+◌}
 use Rattle.exact_fractions.specs.Exact.{value_of}
-use Rattle.point_values.specs.Walk.{IsWalked}
+use Rattle.point_values.proofs.Walk.{IsWalked}
 use Rattle.point_values.specs.declared.place.Place.TheVariants as place
 use Rattle.point_values.proofs.Walks.{walk_wide, walk_step, walk_known, walk_narrow}
 use Rattle.point_values.proofs.nodes.node_values.Goals as goal

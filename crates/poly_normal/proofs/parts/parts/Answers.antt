@@ -2,7 +2,8 @@ use Rattle.std.proofs.Common.{arith, sym, ap, ◌∙◌, subst, length, false, r
 use Rattle.std.proofs.Common.{slice_index_or}
 use Rattle.std.proofs.lemmas.List.{get_or_read}
 use Rattle.fx_model.specs.declared.ExprId.{ExprId}
-use Rattle.poly_normal.specs.Parts.{marked, unmarked}
+use Rattle.poly_normal.specs.Parts.{marked}
+use Rattle.poly_normal.proofs.PartsLaws.{unmarked}
 use Rattle.poly_normal.proofs.Marks.{IsMarkedFrom, start, step_marked, marked_parts}
 use Rattle.poly_normal.proofs.parts.parts.Goals as goal
 

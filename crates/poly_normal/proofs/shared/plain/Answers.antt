@@ -7,7 +7,7 @@ use Rattle.fx_model.specs.declared.Literal.{Literal}
 use Rattle.fx_model.specs.declared.Node.{Node}
 use Rattle.fx_model.specs.declared.Node.TheVariants.{Var, Lit, Neg, Add, Sub, Mul, Div, Abs, Round}
 use Rattle.literal.specs.Normal.{IsNormal}
-use Rattle.literal.specs.Limits.{bounded}
+use Rattle.literal.proofs.Limits.{bounded}
 use Rattle.expr_dag.specs.Nodes.{IsInLimits}
 use Rattle.poly_normal.specs.Ratio.{IsPlain, IsPlainNode}
 use Rattle.poly_normal.proofs.shared.plain.Goals as goal

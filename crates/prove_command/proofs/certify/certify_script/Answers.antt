@@ -1,5 +1,5 @@
 use Rattle.std.proofs.Common.{Err, ap}
-use Rattle.saturate.specs.Answered.{ok_map}
+use Rattle.saturate.proofs.Answered.{ok_map}
 use Rattle.script_answers.specs.Answers.{options_from}
 use Rattle.prove_command.specs.Certified.{name_of}
 use Rattle.prove_command.proofs.Left.{spared_made, spared_cause}

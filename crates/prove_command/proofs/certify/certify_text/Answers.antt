@@ -1,7 +1,7 @@
 use Rattle.std.proofs.Common.{Err, ap, subst}
 use Rattle.std.specs.Prelude.{List, ℕ, IfOk}
 use Rattle.script_grammar.specs.Spells.{View}
-use Rattle.saturate.specs.Answered.{ok_map}
+use Rattle.saturate.proofs.Answered.{ok_map}
 use Rattle.script_answers.specs.Answers.{options_from}
 use Rattle.prove_command.specs.Certified.{IsCertified, name_of}
 use Rattle.prove_command.proofs.Left.{spared_made, spared_cause}

@@ -3,7 +3,7 @@ use Rattle.std.proofs.Common.{◌≡◌, arith, sym, ◌∙◌, subst, ℤ, to_z
 use Rattle.std.proofs.lemmas.Int.{ints}
 use Rattle.fx_model.specs.Fraction.{Fraction, ◌≤ℚ◌, zero_ℚ, lt_le, le_trans}
 use Rattle.fx_model.specs.Powers.{two_to, two_to-positive}
-use Rattle.rounding.specs.Enclosed.{kept_best, rest_best, largest_from, half_from}
+use Rattle.rounding.proofs.Enclosed.{kept_best, rest_best, largest_from, half_from}
 use Rattle.rounding.proofs.bounds.error_interval.Goals as goal
 
 -- a power of two is above 0

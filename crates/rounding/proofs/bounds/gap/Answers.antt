@@ -4,7 +4,7 @@ use Rattle.std.proofs.lemmas.Int.{ints}
 use Rattle.std.proofs.lemmas.Nat.{pow_pos}
 use Rattle.std.proofs.Math.Nat.{pow-le-pow_right}
 use Rattle.fx_model.specs.Powers.{scaled}
-use Rattle.rounding.specs.Largest.{near_gap}
+use Rattle.rounding.proofs.Largest.{near_gap}
 use Rattle.rounding.proofs.bounds.gap.Goals as goal
 
 pub number-requires : goal.number-requires

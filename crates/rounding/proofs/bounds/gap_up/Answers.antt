@@ -4,9 +4,10 @@ use Rattle.std.proofs.lemmas.Int.{ints}
 use Rattle.fx_model.specs.Fraction.{Fraction, ◌-ℚ◌}
 use Rattle.fx_model.specs.Powers.{two_to}
 use Rattle.fx_model.specs.Grid.{At, IsUp}
-use Rattle.dyadic.specs.Values.{value_of, on_grid}
-use Rattle.rounding.specs.Outward.{up_grid}
-use Rattle.rounding.specs.Largest.{far_gap}
+use Rattle.dyadic.specs.Values.{value_of}
+use Rattle.dyadic.proofs.Values.{on_grid}
+use Rattle.rounding.proofs.Outward.{up_grid}
+use Rattle.rounding.proofs.Largest.{far_gap}
 use Rattle.rounding.proofs.bounds.gap_up.Goals as goal
 
 pub returns-then-place-ltminus512 : goal.returns-then-place-ltminus512

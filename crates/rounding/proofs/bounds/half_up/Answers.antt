@@ -4,7 +4,7 @@ use Rattle.fx_model.specs.Fraction.{Fraction}
 use Rattle.fx_model.specs.Powers.{two_to}
 use Rattle.fx_model.specs.Grid.{At, IsUp}
 use Rattle.rounding.specs.Errors.{half_of}
-use Rattle.rounding.specs.Largest.{half_is, last_half_is}
+use Rattle.rounding.proofs.Largest.{half_is, last_half_is}
 use Rattle.rounding.proofs.bounds.half_up.Goals as goal
 
 pub returns-then-lsb-gtminus512 : goal.returns-then-lsb-gtminus512

@@ -6,9 +6,9 @@ use Rattle.fx_model.specs.Powers.{two_to}
 use Rattle.fx_model.specs.Grid.{At, IsUp}
 use Rattle.dyadic.specs.Values.{value_of}
 use Rattle.rounding.specs.Errors.{largest_error, keeps}
-use Rattle.rounding.specs.Outward.{up_grid}
-use Rattle.rounding.specs.Enclosed.{not_kept}
-use Rattle.rounding.specs.Largest.{power_on_grid}
+use Rattle.rounding.proofs.Outward.{up_grid}
+use Rattle.rounding.proofs.Enclosed.{not_kept}
+use Rattle.rounding.proofs.Largest.{power_on_grid}
 use Rattle.rounding.proofs.bounds.largest_up.Goals as goal
 
 pub gap_up-requires-clause-below : goal.gap_up-requires-clause-below

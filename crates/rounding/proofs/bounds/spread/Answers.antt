@@ -6,7 +6,7 @@ use Rattle.fx_model.specs.Cut.{on_grid}
 use Rattle.dyadic.specs.Values.{value_of}
 use Rattle.rounding.specs.declared.bounds.Span.TheVariants.{Nowhere, Leftward, Rightward, Sideward}
 use Rattle.rounding.specs.declared.bounds.Span.TheVariants.{Near}
-use Rattle.rounding.specs.Enclosed.{spread_by, around_zero}
+use Rattle.rounding.proofs.Enclosed.{spread_by, around_zero}
 use Rattle.rounding.proofs.bounds.spread.Goals as goal
 
 -- the number 0

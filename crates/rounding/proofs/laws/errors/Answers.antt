@@ -1,5 +1,5 @@
-use Rattle.rounding.specs.ErrorLaws.{error_lies}
-use Rattle.rounding.specs.Meet.{possible_by_cases}
+use Rattle.rounding.proofs.ErrorLaws.{error_lies}
+use Rattle.rounding.proofs.Meet.{possible_by_cases}
 use Rattle.rounding.proofs.laws.errors.Goals as goal
 
 pub returns : goal.returns

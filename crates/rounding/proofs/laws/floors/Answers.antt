@@ -1,5 +1,5 @@
-use Rattle.rounding.specs.Floor.{floor-le, floor-plus, floor-whole, ceiling-le, ceiling-plus}
-use Rattle.rounding.specs.Floor.{ceiling-whole}
+use Rattle.rounding.proofs.Floor.{floor-le, ceiling-le}
+use Rattle.rounding.specs.Floor.{floor-plus, floor-whole, ceiling-plus, ceiling-whole}
 use Rattle.rounding.proofs.laws.floors.Goals as goal
 
 pub returns : goal.returns

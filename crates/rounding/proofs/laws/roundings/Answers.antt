@@ -1,5 +1,6 @@
-use Rattle.rounding.specs.Rounded.{rounded-le, rounded_multiple, rounded-finer}
-use Rattle.rounding.specs.OnGrid.{rounded_on_grid}
+use Rattle.rounding.proofs.Rounded.{rounded-le, rounded-finer}
+use Rattle.rounding.specs.Rounded.{rounded_multiple}
+use Rattle.rounding.proofs.OnGrid.{rounded_on_grid}
 use Rattle.rounding.proofs.laws.roundings.Goals as goal
 
 pub returns : goal.returns

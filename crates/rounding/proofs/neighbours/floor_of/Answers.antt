@@ -3,7 +3,7 @@ use Rattle.std.specs.Prelude.{◌^◌}
 use Rattle.std.specs.Int.Signed.{shr_z}
 use Rattle.std.proofs.lemmas.Int.{ints}
 use Rattle.std.proofs.lemmas.Nat.{pow_pos}
-use Rattle.rounding.specs.Shifts.{floor_shift, shr_size}
+use Rattle.rounding.proofs.Shifts.{floor_shift, shr_size}
 use Rattle.rounding.proofs.neighbours.floor_of.Goals as goal
 
 pub returns : goal.returns

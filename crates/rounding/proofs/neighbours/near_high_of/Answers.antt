@@ -6,7 +6,7 @@ use Rattle.std.specs.Int.RustNames.{unsigned_abs}
 use Rattle.std.proofs.lemmas.Int.{ints}
 use Rattle.fx_model.specs.Powers.{scaled}
 use Rattle.fx_model.specs.Rounded.{floor}
-use Rattle.rounding.specs.Shifts.{shr_low, shr_high, near_by, scaled-twice}
+use Rattle.rounding.proofs.Shifts.{shr_low, shr_high, near_by, scaled-twice}
 use Rattle.rounding.proofs.neighbours.near_high_of.Goals as goal
 
 pub overflow_add-result : goal.overflow_add-result

@@ -2,7 +2,7 @@ use Rattle.std.proofs.Common.{arith, ap, ◌∙◌, pos}
 use Rattle.std.proofs.lemmas.Int.{ints}
 use Rattle.fx_model.specs.Powers.{scaled}
 use Rattle.fx_model.specs.Cut.{on_grid}
-use Rattle.rounding.specs.Places.{one_scaled}
+use Rattle.rounding.proofs.Places.{one_scaled}
 use Rattle.rounding.proofs.number.power.Goals as goal
 
 pub number-requires : goal.number-requires

@@ -2,10 +2,11 @@ use Rattle.std.proofs.Common.{arith, sym, ◌∙◌, subst, refl}
 use Rattle.std.specs.Prelude.{◌≤ℤ◌}
 use Rattle.std.proofs.lemmas.Int.{ints}
 use Rattle.fx_model.specs.Grid.{IsOnGrid}
-use Rattle.dyadic.specs.Values.{value_of, on_grid}
-use Rattle.rounding.specs.Rounded.{rounded-finer}
-use Rattle.rounding.specs.OnGrid.{rounded_on_grid}
-use Rattle.rounding.specs.Chosen.{rounded_by}
+use Rattle.dyadic.specs.Values.{value_of}
+use Rattle.dyadic.proofs.Values.{on_grid}
+use Rattle.rounding.proofs.Rounded.{rounded-finer}
+use Rattle.rounding.proofs.OnGrid.{rounded_on_grid}
+use Rattle.rounding.proofs.Chosen.{rounded_by}
 use Rattle.rounding.proofs.round.round_grid.Goals as goal
 
 pub returns-then-lsb-exponent : goal.returns-then-lsb-exponent

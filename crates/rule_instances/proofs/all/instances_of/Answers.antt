@@ -1,6 +1,6 @@
 use Rattle.std.proofs.Common.{sym, ◌∙◌, subst}
 use Rattle.pair_closure.specs.Reached.{Has, IsListOf}
-use Rattle.pair_closure.specs.RowLaws.{seconds_has, seconds_once}
+use Rattle.pair_closure.proofs.RowLaws.{seconds_has, seconds_once}
 use Rattle.rule_instances.specs.Instances.{IsInstance}
 use Rattle.rule_instances.proofs.Behind.{all_behind}
 use Rattle.rule_instances.proofs.Whole.{all_listed}

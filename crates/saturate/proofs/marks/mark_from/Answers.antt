@@ -1,6 +1,6 @@
 use Rattle.std.proofs.Common.{◌≡◌, ◌∙◌, arith, sym, subst, inl, inr}
 use Rattle.std.proofs.lemmas.Option.{slice_get_within}
-use Rattle.facts.specs.CommonParts.{some-inj}
+use Rattle.facts.proofs.CommonParts.{some-inj}
 use Rattle.derivation.specs.Changes.{IsUser}
 use Rattle.saturate.proofs.marks.mark_from.Goals as goal
 

@@ -2,7 +2,7 @@ use Rattle.std.proofs.Common.{arith, ◌≡◌, refl, sym, subst, ap, length}
 use Rattle.derivation.specs.Changes.{IsQuiet}
 use Rattle.saturate.specs.Tables.{fact_at}
 use Rattle.saturate.specs.Universes.{setting_by}
-use Rattle.saturate.specs.Lists.{written_back}
+use Rattle.saturate.proofs.Lists.{written_back}
 use Rattle.saturate.proofs.Closed.{void_best}
 use Rattle.saturate.proofs.rounds.rounds_from.Goals as goal
 

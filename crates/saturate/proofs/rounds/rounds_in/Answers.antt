@@ -6,11 +6,12 @@ use Rattle.facts.specs.declared.fact.Slot.TheVariants as slot
 use Rattle.facts.specs.declared.fact.Fact.TheVariants as fact
 use Rattle.derivation.specs.Derivations.{At, IsBest}
 use Rattle.derivation.specs.Rounds.{InTable}
-use Rattle.derivation.specs.Best.{next_best}
-use Rattle.derivation.specs.Heights.{best_start, best_void, best_same}
-use Rattle.derivation.specs.Changes.{IsQuiet, AreDue, AreUsers, quiet_after}
+use Rattle.derivation.proofs.Best.{next_best}
+use Rattle.derivation.proofs.Heights.{best_start, best_void, best_same}
+use Rattle.derivation.specs.Changes.{IsQuiet, AreDue, AreUsers}
+use Rattle.derivation.proofs.Changes.{quiet_after}
 use Rattle.derivation.specs.Counted.{touched}
-use Rattle.derivation.specs.Counts.{due_touched}
+use Rattle.derivation.proofs.Counts.{due_touched}
 use Rattle.rule_universe.specs.declared.placed.Placed.{Placed}
 use Rattle.rule_universe.specs.Placed.{slots_of}
 use Rattle.saturate.specs.Universes.{setting_by}
@@ -18,7 +19,7 @@ use Rattle.saturate.specs.Closed.{IsClosedUnder}
 use Rattle.saturate.specs.Keeping.{IsSaid, HaveCome}
 use Rattle.saturate.proofs.Counted.{spent_by, cost_by, spent_within, spent_next, spent_last}
 use Rattle.saturate.proofs.Closed.{closed_same}
-use Rattle.saturate.specs.Lists.{written_back, listed_none}
+use Rattle.saturate.proofs.Lists.{written_back, listed_none}
 use Rattle.saturate.proofs.rounds.rounds_in.Goals as goal
 
 pub loop-init : goal.loop-init

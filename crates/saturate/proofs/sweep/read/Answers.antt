@@ -5,10 +5,10 @@ use Rattle.std.proofs.lemmas.List.Elements.{Contains-get_or}
 use Rattle.std.proofs.lemmas.Option.{get_or_from_slice_get}
 use Rattle.derivation.specs.Rounds.{all_at, with_first}
 use Rattle.rule_universe.specs.declared.placed.Placed.{Placed}
-use Rattle.rule_universe.specs.InTurn.{none_left, here, rest_is}
+use Rattle.rule_universe.proofs.InTurn.{none_left, here, rest_is}
 use Rattle.rule_universe.specs.Placed.{slots_of}
-use Rattle.saturate.specs.Gather.{after, after_first}
-use Rattle.saturate.specs.Lists.{taken_cases}
+use Rattle.saturate.proofs.Gather.{after, after_first}
+use Rattle.saturate.proofs.Lists.{taken_cases}
 use Rattle.saturate.specs.Tables.{fact_at}
 use Rattle.saturate.proofs.sweep.read.Goals as goal
 

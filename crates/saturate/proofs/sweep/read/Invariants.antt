@@ -3,7 +3,7 @@ use Rattle.std.specs.List.{Contains}
 use Rattle.derivation.specs.Rounds.{all_at}
 use Rattle.rule_universe.specs.declared.placed.Placed.{Placed}
 use Rattle.rule_universe.specs.Placed.{slots_of}
-use Rattle.saturate.specs.Gather.{after}
+use Rattle.saturate.proofs.Gather.{after}
 use Rattle.saturate.specs.Tables.{fact_at}
 use Rattle.saturate.proofs.sweep.read.Given as goal
 

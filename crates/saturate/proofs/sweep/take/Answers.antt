@@ -4,11 +4,11 @@ use Rattle.std.proofs.lemmas.Option.{slice_get_within}
 use Rattle.facts.specs.declared.fact.Slot.TheVariants as slot
 use Rattle.facts.specs.Order.{slot_of}
 use Rattle.derivation.specs.Rounds.{Improves}
-use Rattle.rule_universe.specs.OnePlace.{place_within}
+use Rattle.rule_universe.proofs.OnePlace.{place_within}
 use Rattle.saturate.specs.declared.kept.Table.{Table}
 use Rattle.saturate.specs.Tables.{fact_at}
 use Rattle.saturate.specs.Universes.{setting_by}
-use Rattle.saturate.specs.Lists.{written_back}
+use Rattle.saturate.proofs.Lists.{written_back}
 use Rattle.saturate.specs.Sweeping.{IsSweeping}
 use Rattle.saturate.proofs.Strong.{got}
 use Rattle.saturate.proofs.Slots.{room_place, room_found, placed_slot, shaped_found}

@@ -3,7 +3,7 @@ use Rattle.std.specs.List.{Contains}
 use Rattle.derivation.specs.Rounds.{InTable, all_at, conclusion}
 use Rattle.rule_universe.specs.declared.placed.Placed.{Placed}
 use Rattle.rule_universe.specs.Placed.{slots_of}
-use Rattle.rule_universe.specs.OnePlace.{place_within}
+use Rattle.rule_universe.proofs.OnePlace.{place_within}
 use Rattle.saturate.specs.Tables.{fact_at}
 use Rattle.saturate.specs.Universes.{setting_by}
 use Rattle.saturate.specs.Sweeping.{IsRead, AreAtMost}

@@ -1,7 +1,7 @@
 use Rattle.std.proofs.Common.{◌≡◌, ◌+◌, sym, ap, subst, ◌∙◌, drop}
 use Rattle.std.proofs.lemmas.List.Elements.{Contains-get_or}
 use Rattle.facts.specs.Order.{slot_of}
-use Rattle.rule_universe.specs.InTurn.{none_left, here, rest_is}
+use Rattle.rule_universe.proofs.InTurn.{none_left, here, rest_is}
 use Rattle.rule_universe.specs.Placed.{slots_of}
 use Rattle.saturate.specs.Tables.{fact_at, HasPlace, IsFoundAt}
 use Rattle.saturate.proofs.Places.{fact_at_proper}

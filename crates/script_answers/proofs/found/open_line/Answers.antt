@@ -1,7 +1,7 @@
 use Rattle.std.proofs.Common.{arith}
 use Rattle.script_grammar.specs.Cases.{cases_of}
-use Rattle.saturate.specs.Answered.{ok_map}
-use Rattle.settler.specs.Cases.{as_many}
+use Rattle.saturate.proofs.Answered.{ok_map}
+use Rattle.settler.proofs.CasesLaws.{as_many}
 use Rattle.script_answers.proofs.Answered.{open_line_in}
 use Rattle.script_answers.proofs.found.open_line.Goals as goal
 

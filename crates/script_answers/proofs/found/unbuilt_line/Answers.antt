@@ -1,5 +1,5 @@
 use Rattle.std.proofs.Common.{◌∙◌}
-use Rattle.saturate.specs.Answered.{ok_map}
+use Rattle.saturate.proofs.Answered.{ok_map}
 use Rattle.script_answers.specs.Answers.{options_from}
 use Rattle.script_answers.proofs.Answered.{many_expressions}
 use Rattle.script_answers.proofs.found.unbuilt_line.Goals as goal

@@ -1,4 +1,4 @@
-use Rattle.script_words.specs.Grown.{one_more}
+use Rattle.script_words.proofs.Grown.{one_more}
 use Rattle.script_judge.proofs.sets.add.Goals as goal
 
 pub returns : goal.returns

@@ -1,5 +1,5 @@
 use Rattle.facts.specs.Holds.{Holds}
-use Rattle.script_claims.specs.Facts.{facts_all}
+use Rattle.script_claims.proofs.Facts.{facts_all}
 use Rattle.script_claims.specs.Meets.{IsTrueAt}
 use Rattle.script_truths.proofs.Rows.{checked_true, met_true}
 use Rattle.script_truths.proofs.laws.what_is_written_is_true.Goals as goal

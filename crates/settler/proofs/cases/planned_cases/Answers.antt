@@ -6,7 +6,8 @@ use Rattle.std.proofs.lemmas.List.Elements.{recursion_from_All}
 use Rattle.script_claims.specs.declared.claim.Claim.{Claim}
 use Rattle.script_claims.specs.Facts.{HasNormalBounds}
 use Rattle.script_grammar.specs.Cases.{cases_of}
-use Rattle.universe.specs.Cases.{AreHypotheses, cases_have_hypotheses, case_has_hypotheses}
+use Rattle.universe.specs.Cases.{AreHypotheses}
+use Rattle.universe.proofs.Cases.{cases_have_hypotheses, case_has_hypotheses}
 use Rattle.box_tree.specs.Root.{plan_by}
 use Rattle.settler.specs.declared.cases.Case.{Case}
 use Rattle.settler.specs.Cases.{AreCases, IsCaseOf}

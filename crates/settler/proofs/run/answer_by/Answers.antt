@@ -1,8 +1,8 @@
 use Rattle.std.proofs.Common.{arith}
 use Rattle.script_grammar.specs.Cases.{cases_of}
-use Rattle.saturate.specs.Answered.{ok_map}
+use Rattle.saturate.proofs.Answered.{ok_map}
 use Rattle.settler.specs.Answers.{Options, options}
-use Rattle.settler.specs.Cases.{as_many}
+use Rattle.settler.proofs.CasesLaws.{as_many}
 use Rattle.settler.proofs.Comes.{comes_to, each_holds}
 use Rattle.settler.proofs.run.answer_by.Goals as goal
 

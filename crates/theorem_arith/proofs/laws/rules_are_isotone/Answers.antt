@@ -1,16 +1,16 @@
-use Rattle.theorem_arith.specs.Isotone.{literal_rule-isotone, negation_rule-isotone}
-use Rattle.theorem_arith.specs.Isotone.{sum_rule-isotone, difference_rule-isotone}
-use Rattle.theorem_arith.specs.Isotone.{difference_with_itself_rule-isotone, product_rule-isotone}
-use Rattle.theorem_arith.specs.Isotone.{square_rule-isotone, quotient_rule-isotone}
-use Rattle.theorem_arith.specs.Isotone.{quotient_by_nonzero_rule-isotone}
-use Rattle.theorem_arith.specs.Isotone.{quotient_by_itself_rule-isotone}
-use Rattle.theorem_arith.specs.IsotoneSizes.{size_rule-isotone, value_rule-isotone}
-use Rattle.theorem_arith.specs.IsotoneSizes.{sign_rule-isotone, absolute_value_rule-isotone}
-use Rattle.theorem_arith.specs.IsotoneSizes.{size_of_value_rule-isotone}
-use Rattle.theorem_arith.specs.IsotoneOperations.{size_of_negation_rule-isotone}
-use Rattle.theorem_arith.specs.IsotoneOperations.{size_of_product_rule-isotone}
-use Rattle.theorem_arith.specs.IsotoneOperations.{size_of_quotient_rule-isotone}
-use Rattle.theorem_arith.specs.IsotoneOperations.{size_of_sum_rule-isotone}
+use Rattle.theorem_arith.proofs.Isotone.{literal_rule-isotone, negation_rule-isotone}
+use Rattle.theorem_arith.proofs.Isotone.{sum_rule-isotone, difference_rule-isotone}
+use Rattle.theorem_arith.proofs.Isotone.{difference_with_itself_rule-isotone, product_rule-isotone}
+use Rattle.theorem_arith.proofs.Isotone.{square_rule-isotone, quotient_rule-isotone}
+use Rattle.theorem_arith.proofs.Isotone.{quotient_by_nonzero_rule-isotone}
+use Rattle.theorem_arith.proofs.Isotone.{quotient_by_itself_rule-isotone}
+use Rattle.theorem_arith.proofs.IsotoneSizes.{size_rule-isotone, value_rule-isotone}
+use Rattle.theorem_arith.proofs.IsotoneSizes.{sign_rule-isotone, absolute_value_rule-isotone}
+use Rattle.theorem_arith.proofs.IsotoneSizes.{size_of_value_rule-isotone}
+use Rattle.theorem_arith.proofs.IsotoneOperations.{size_of_negation_rule-isotone}
+use Rattle.theorem_arith.proofs.IsotoneOperations.{size_of_product_rule-isotone}
+use Rattle.theorem_arith.proofs.IsotoneOperations.{size_of_quotient_rule-isotone}
+use Rattle.theorem_arith.proofs.IsotoneOperations.{size_of_sum_rule-isotone}
 use Rattle.theorem_arith.proofs.laws.rules_are_isotone.Goals as goal
 
 pub returns : goal.returns

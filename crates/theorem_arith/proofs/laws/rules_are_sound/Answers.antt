@@ -1,12 +1,14 @@
-use Rattle.theorem_arith.specs.Sound.{literal_rule-sound, negation_rule-sound, sum_rule-sound}
-use Rattle.theorem_arith.specs.Sound.{difference_rule-sound, difference_with_itself_rule-sound}
-use Rattle.theorem_arith.specs.Sound.{product_rule-sound, quotient_rule-sound}
-use Rattle.theorem_arith.specs.Sound.{quotient_by_nonzero_rule-sound, quotient_by_itself_rule-sound}
-use Rattle.theorem_arith.specs.SoundOperations.{square_rule-sound, size_of_negation_rule-sound}
-use Rattle.theorem_arith.specs.SoundOperations.{size_of_product_rule-sound}
-use Rattle.theorem_arith.specs.SoundOperations.{size_of_quotient_rule-sound, size_of_sum_rule-sound}
-use Rattle.theorem_arith.specs.SoundSizes.{size_rule-sound, value_rule-sound, sign_rule-sound}
-use Rattle.theorem_arith.specs.SoundSizes.{absolute_value_rule-sound, size_of_value_rule-sound}
+use Rattle.theorem_arith.proofs.Sound.{literal_rule-sound, negation_rule-sound, sum_rule-sound}
+use Rattle.theorem_arith.proofs.Sound.{difference_rule-sound, difference_with_itself_rule-sound}
+use Rattle.theorem_arith.proofs.Sound.{product_rule-sound, quotient_rule-sound}
+use Rattle.theorem_arith.proofs.Sound.{quotient_by_nonzero_rule-sound}
+use Rattle.theorem_arith.proofs.Sound.{quotient_by_itself_rule-sound}
+use Rattle.theorem_arith.proofs.SoundOperations.{square_rule-sound, size_of_negation_rule-sound}
+use Rattle.theorem_arith.proofs.SoundOperations.{size_of_product_rule-sound}
+use Rattle.theorem_arith.proofs.SoundOperations.{size_of_quotient_rule-sound}
+use Rattle.theorem_arith.proofs.SoundOperations.{size_of_sum_rule-sound}
+use Rattle.theorem_arith.proofs.SoundSizes.{size_rule-sound, value_rule-sound, sign_rule-sound}
+use Rattle.theorem_arith.proofs.SoundSizes.{absolute_value_rule-sound, size_of_value_rule-sound}
 use Rattle.theorem_arith.proofs.laws.rules_are_sound.Goals as goal
 
 pub returns : goal.returns

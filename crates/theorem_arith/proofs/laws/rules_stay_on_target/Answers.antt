@@ -1,12 +1,13 @@
-use Rattle.theorem_arith.specs.OnTarget.{literal_rule-target, negation_rule-target, sum_rule-target}
-use Rattle.theorem_arith.specs.OnTarget.{difference_rule-target, difference_with_itself_rule-target}
-use Rattle.theorem_arith.specs.OnTarget.{product_rule-target, square_rule-target}
-use Rattle.theorem_arith.specs.OnTarget.{quotient_rule-target, quotient_by_nonzero_rule-target}
-use Rattle.theorem_arith.specs.OnTarget.{quotient_by_itself_rule-target, size_rule-target}
-use Rattle.theorem_arith.specs.OnTarget.{value_rule-target, sign_rule-target}
-use Rattle.theorem_arith.specs.OnTarget.{absolute_value_rule-target, size_of_value_rule-target}
-use Rattle.theorem_arith.specs.OnTarget.{size_of_negation_rule-target, size_of_product_rule-target}
-use Rattle.theorem_arith.specs.OnTarget.{size_of_quotient_rule-target, size_of_sum_rule-target}
+use Rattle.theorem_arith.proofs.OnTarget.{literal_rule-target, negation_rule-target}
+use Rattle.theorem_arith.proofs.OnTarget.{sum_rule-target, difference_rule-target}
+use Rattle.theorem_arith.proofs.OnTarget.{difference_with_itself_rule-target, product_rule-target}
+use Rattle.theorem_arith.proofs.OnTarget.{square_rule-target, quotient_rule-target}
+use Rattle.theorem_arith.proofs.OnTarget.{quotient_by_nonzero_rule-target}
+use Rattle.theorem_arith.proofs.OnTarget.{quotient_by_itself_rule-target, size_rule-target}
+use Rattle.theorem_arith.proofs.OnTarget.{value_rule-target, sign_rule-target}
+use Rattle.theorem_arith.proofs.OnTarget.{absolute_value_rule-target, size_of_value_rule-target}
+use Rattle.theorem_arith.proofs.OnTarget.{size_of_negation_rule-target, size_of_product_rule-target}
+use Rattle.theorem_arith.proofs.OnTarget.{size_of_quotient_rule-target, size_of_sum_rule-target}
 use Rattle.theorem_arith.proofs.laws.rules_stay_on_target.Goals as goal
 
 pub returns : goal.returns

@@ -1,18 +1,19 @@
-use Rattle.theorem_fix.specs.Isotone.{literal_multiple_rule-isotone}
-use Rattle.theorem_fix.specs.Isotone.{multiple_of_negation_rule-isotone}
-use Rattle.theorem_fix.specs.Isotone.{multiple_of_sum_rule-isotone}
-use Rattle.theorem_fix.specs.Isotone.{multiple_of_product_rule-isotone}
-use Rattle.theorem_fix.specs.Isotone.{rounded_multiple_rule-isotone}
-use Rattle.theorem_fix.specs.Isotone.{untouched_multiple_rule-isotone, number_multiple_rule-isotone}
-use Rattle.theorem_fix.specs.IsotoneNonzero.{nonzero_bound_rule-isotone, nonzero_size_rule-isotone}
-use Rattle.theorem_fix.specs.IsotoneNonzero.{nonzero_product_rule-isotone}
-use Rattle.theorem_fix.specs.IsotoneNonzero.{nonzero_quotient_rule-isotone}
-use Rattle.theorem_fix.specs.IsotoneNonzero.{nonzero_negation_rule-isotone}
-use Rattle.theorem_fix.specs.IsotoneNonzero.{nonzero_side_rule-isotone}
-use Rattle.theorem_fix.specs.IsotoneRoundings.{rounded_bound_rule-isotone, error_rule-isotone}
-use Rattle.theorem_fix.specs.IsotoneRoundings.{signed_error_rule-isotone}
-use Rattle.theorem_fix.specs.IsotoneRoundings.{multiple_error_rule-isotone}
-use Rattle.theorem_fix.specs.Shrinking.{no_multiple_rule-isotone, shrinking_rule-isotone}
+use Rattle.theorem_fix.proofs.Isotone.{literal_multiple_rule-isotone}
+use Rattle.theorem_fix.proofs.Isotone.{multiple_of_negation_rule-isotone}
+use Rattle.theorem_fix.proofs.Isotone.{multiple_of_sum_rule-isotone}
+use Rattle.theorem_fix.proofs.Isotone.{multiple_of_product_rule-isotone}
+use Rattle.theorem_fix.proofs.Isotone.{rounded_multiple_rule-isotone}
+use Rattle.theorem_fix.proofs.Isotone.{untouched_multiple_rule-isotone}
+use Rattle.theorem_fix.proofs.Isotone.{number_multiple_rule-isotone}
+use Rattle.theorem_fix.proofs.IsotoneNonzero.{nonzero_bound_rule-isotone, nonzero_size_rule-isotone}
+use Rattle.theorem_fix.proofs.IsotoneNonzero.{nonzero_product_rule-isotone}
+use Rattle.theorem_fix.proofs.IsotoneNonzero.{nonzero_quotient_rule-isotone}
+use Rattle.theorem_fix.proofs.IsotoneNonzero.{nonzero_negation_rule-isotone}
+use Rattle.theorem_fix.proofs.IsotoneNonzero.{nonzero_side_rule-isotone}
+use Rattle.theorem_fix.proofs.IsotoneRoundings.{rounded_bound_rule-isotone, error_rule-isotone}
+use Rattle.theorem_fix.proofs.IsotoneRoundings.{signed_error_rule-isotone}
+use Rattle.theorem_fix.proofs.IsotoneRoundings.{multiple_error_rule-isotone}
+use Rattle.theorem_fix.proofs.ShrinkingLaws.{no_multiple_rule-isotone, shrinking_rule-isotone}
 use Rattle.theorem_fix.proofs.laws.rules_are_isotone.Goals as goal
 
 pub returns : goal.returns

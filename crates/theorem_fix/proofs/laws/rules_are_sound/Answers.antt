@@ -1,16 +1,16 @@
-use Rattle.theorem_fix.specs.SoundMultiples.{literal_multiple_rule-sound}
-use Rattle.theorem_fix.specs.SoundMultiples.{multiple_of_negation_rule-sound}
-use Rattle.theorem_fix.specs.SoundMultiples.{multiple_of_sum_rule-sound}
-use Rattle.theorem_fix.specs.SoundMultiples.{multiple_of_product_rule-sound}
-use Rattle.theorem_fix.specs.SoundMultiples.{rounded_multiple_rule-sound}
-use Rattle.theorem_fix.specs.SoundMultiples.{untouched_multiple_rule-sound}
-use Rattle.theorem_fix.specs.SoundMultiples.{number_multiple_rule-sound}
-use Rattle.theorem_fix.specs.SoundNonzero.{nonzero_bound_rule-sound, nonzero_size_rule-sound}
-use Rattle.theorem_fix.specs.SoundNonzero.{nonzero_product_rule-sound, nonzero_quotient_rule-sound}
-use Rattle.theorem_fix.specs.SoundNonzero.{nonzero_negation_rule-sound, nonzero_side_rule-sound}
-use Rattle.theorem_fix.specs.SoundRoundings.{rounded_bound_rule-sound, error_rule-sound}
-use Rattle.theorem_fix.specs.SoundRoundings.{signed_error_rule-sound, multiple_error_rule-sound}
-use Rattle.theorem_fix.specs.Shrinking.{no_multiple_rule-sound, shrinking_rule-sound}
+use Rattle.theorem_fix.proofs.SoundMultiples.{literal_multiple_rule-sound}
+use Rattle.theorem_fix.proofs.SoundMultiples.{multiple_of_negation_rule-sound}
+use Rattle.theorem_fix.proofs.SoundMultiples.{multiple_of_sum_rule-sound}
+use Rattle.theorem_fix.proofs.SoundMultiples.{multiple_of_product_rule-sound}
+use Rattle.theorem_fix.proofs.SoundMultiples.{rounded_multiple_rule-sound}
+use Rattle.theorem_fix.proofs.SoundMultiples.{untouched_multiple_rule-sound}
+use Rattle.theorem_fix.proofs.SoundMultiples.{number_multiple_rule-sound}
+use Rattle.theorem_fix.proofs.SoundNonzero.{nonzero_bound_rule-sound, nonzero_size_rule-sound}
+use Rattle.theorem_fix.proofs.SoundNonzero.{nonzero_product_rule-sound, nonzero_quotient_rule-sound}
+use Rattle.theorem_fix.proofs.SoundNonzero.{nonzero_negation_rule-sound, nonzero_side_rule-sound}
+use Rattle.theorem_fix.proofs.SoundRoundings.{rounded_bound_rule-sound, error_rule-sound}
+use Rattle.theorem_fix.proofs.SoundRoundings.{signed_error_rule-sound, multiple_error_rule-sound}
+use Rattle.theorem_fix.proofs.ShrinkingLaws.{no_multiple_rule-sound, shrinking_rule-sound}
 use Rattle.theorem_fix.proofs.laws.rules_are_sound.Goals as goal
 
 pub returns : goal.returns

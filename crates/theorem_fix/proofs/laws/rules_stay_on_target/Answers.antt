@@ -1,14 +1,15 @@
-use Rattle.theorem_fix.specs.OnTarget.{literal_multiple_rule-target}
-use Rattle.theorem_fix.specs.OnTarget.{multiple_of_negation_rule-target}
-use Rattle.theorem_fix.specs.OnTarget.{multiple_of_sum_rule-target, multiple_of_product_rule-target}
-use Rattle.theorem_fix.specs.OnTarget.{rounded_multiple_rule-target, untouched_multiple_rule-target}
-use Rattle.theorem_fix.specs.OnTarget.{number_multiple_rule-target, nonzero_bound_rule-target}
-use Rattle.theorem_fix.specs.OnTarget.{nonzero_size_rule-target, nonzero_product_rule-target}
-use Rattle.theorem_fix.specs.OnTarget.{nonzero_quotient_rule-target, nonzero_negation_rule-target}
-use Rattle.theorem_fix.specs.OnTarget.{nonzero_side_rule-target, rounded_bound_rule-target}
-use Rattle.theorem_fix.specs.OnTarget.{error_rule-target, signed_error_rule-target}
-use Rattle.theorem_fix.specs.OnTarget.{multiple_error_rule-target, no_multiple_rule-target}
-use Rattle.theorem_fix.specs.OnTarget.{shrinking_rule-target}
+use Rattle.theorem_fix.proofs.OnTarget.{literal_multiple_rule-target}
+use Rattle.theorem_fix.proofs.OnTarget.{multiple_of_negation_rule-target}
+use Rattle.theorem_fix.proofs.OnTarget.{multiple_of_sum_rule-target}
+use Rattle.theorem_fix.proofs.OnTarget.{multiple_of_product_rule-target}
+use Rattle.theorem_fix.proofs.OnTarget.{rounded_multiple_rule-target}
+use Rattle.theorem_fix.proofs.OnTarget.{untouched_multiple_rule-target, number_multiple_rule-target}
+use Rattle.theorem_fix.proofs.OnTarget.{nonzero_bound_rule-target, nonzero_size_rule-target}
+use Rattle.theorem_fix.proofs.OnTarget.{nonzero_product_rule-target, nonzero_quotient_rule-target}
+use Rattle.theorem_fix.proofs.OnTarget.{nonzero_negation_rule-target, nonzero_side_rule-target}
+use Rattle.theorem_fix.proofs.OnTarget.{rounded_bound_rule-target, error_rule-target}
+use Rattle.theorem_fix.proofs.OnTarget.{signed_error_rule-target, multiple_error_rule-target}
+use Rattle.theorem_fix.proofs.OnTarget.{no_multiple_rule-target, shrinking_rule-target}
 use Rattle.theorem_fix.proofs.laws.rules_stay_on_target.Goals as goal
 
 pub returns : goal.returns

@@ -5,7 +5,8 @@ use Rattle.fx_model.specs.Expression.{literal_value}
 use Rattle.fx_model.specs.declared.Literal.{Literal}
 use Rattle.literal.specs.Normal.{IsFix}
 use Rattle.facts.specs.Places.{place_from, place_from-some}
-use Rattle.theorem_fix.specs.Greatest.{greatest_place, greatest_place-is, greatest_place-none}
+use Rattle.theorem_fix.specs.Greatest.{greatest_place}
+use Rattle.theorem_fix.proofs.Greatest.{greatest_place-is, greatest_place-none}
 use Rattle.theorem_fix.proofs.multiples.of_literal.Goals as goal
 
 placed : (k j : ℤ) (l : Literal) → j ≡ k → IsFix l k

@@ -1,7 +1,7 @@
 use Rattle.std.proofs.Common.{ap, ◌∙◌, sym}
 use Rattle.dyadic.specs.Ends.{bound_of}
 use Rattle.interval.specs.Intervals.{range_of}
-use Rattle.interval.specs.Outward.{outward_of_ends}
+use Rattle.interval.proofs.Outward.{outward_of_ends}
 use Rattle.theorem_fix.specs.Roundings.{rounded_end, rounded_range, rounded_interval}
 use Rattle.theorem_fix.proofs.roundings.between.Goals as goal
 

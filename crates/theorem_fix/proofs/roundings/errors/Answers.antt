@@ -1,7 +1,7 @@
 use Rattle.std.proofs.Common.{ap, ◌∙◌, sym}
-use Rattle.interval.specs.Outward.{outward_of_only}
+use Rattle.interval.proofs.Outward.{outward_of_only}
 use Rattle.rounding.specs.Errors.{error_range}
-use Rattle.theorem_fix.specs.Ranges.{error_range_ordered}
+use Rattle.theorem_fix.proofs.Ranges.{error_range_ordered}
 use Rattle.theorem_fix.specs.Roundings.{errors_of}
 use Rattle.theorem_fix.proofs.roundings.errors.Goals as goal
 

@@ -4,21 +4,23 @@ use Rattle.std.proofs.Common.{sym, ap, ◌∙◌, subst, arith, to_z, of_z, w16,
 use Rattle.std.proofs.lemmas.Int.{ints}
 use Rattle.fx_model.specs.Fraction.{Fraction}
 use Rattle.fx_model.specs.Grid.{Bound, Below, At, Above}
-use Rattle.fx_model.specs.Enclosure.{Range, MultiplesIn, IsEnclosure, IsOrdered, enclosure_unique}
-use Rattle.fx_model.specs.Enclosure.{ordered_by}
+use Rattle.fx_model.specs.Enclosure.{Range, MultiplesIn, IsEnclosure, IsOrdered, ordered_by}
+use Rattle.fx_model.proofs.Enclosure.{enclosure_unique}
 use Rattle.fx_model.specs.declared.Direction.TheVariants.{Dn, Up}
 use Rattle.interval.specs.declared.interval.Interval.{Interval}
-use Rattle.interval.specs.Intervals.{range_of, same_range}
+use Rattle.interval.specs.Intervals.{range_of}
+use Rattle.interval.proofs.Intervals.{same_range}
 use Rattle.interval.specs.Meets.{are_ordered, are_ordered_in, are_ordered_out}
 use Rattle.interval.specs.Multiples.{IsEndUp, IsEndDown}
-use Rattle.interval.specs.Shrunk.{some_multiple, shrunk_is}
+use Rattle.interval.proofs.ShrunkLaws.{some_multiple, shrunk_is}
 use Rattle.rounding.specs.Rounded.{rounded_multiple}
 use Rattle.facts.specs.declared.place.FixPlace.{FixPlace}
-use Rattle.theorem_fix.specs.Beside.{rounded_below, rounded_above, multiple_below, multiple_above}
+use Rattle.theorem_fix.specs.Beside.{rounded_below}
+use Rattle.theorem_fix.proofs.Beside.{rounded_above, multiple_below, multiple_above}
 use Rattle.theorem_fix.specs.Roundings.{rounded_end}
 use Rattle.theorem_fix.specs.Shrunk.{shrunk_range, shrunk_of}
-use Rattle.theorem_fix.specs.ShrunkRanges.{low_grid, high_grid, shrunk_ends, shrunk_none}
-use Rattle.theorem_fix.specs.ShrunkRanges.{shrunk_some, multiple_lies}
+use Rattle.theorem_fix.proofs.ShrunkRanges.{low_grid, high_grid, shrunk_ends, shrunk_none}
+use Rattle.theorem_fix.proofs.ShrunkRanges.{shrunk_some, multiple_lies}
 use Rattle.theorem_fix.proofs.shrinking.shrunk.Goals as goal
 
 end_up : (k : ℤ) (b : Bound) → IsEndUp k b (rounded_end (record { lsb = k; dir = Up }) b)

@@ -1,8 +1,9 @@
 use Rattle.std.proofs.Common.{ℕ, ◌∙◌, Err, refl, sym, ap, subst, inl}
-use Rattle.fx_edge.specs.Outside.{Rose, rose_later}
+use Rattle.fx_edge.specs.Outside.{Rose}
+use Rattle.fx_edge.proofs.OutsideLaws.{rose_later}
 use Rattle.command_line.specs.Trim.{trim_of}
 use Rattle.whole_texts.specs.Texts.{IsText}
-use Rattle.command_runs.specs.Ends.{kept_same}
+use Rattle.command_runs.proofs.Ends.{kept_same}
 use Rattle.trim_command.proofs.Ends.{put_is, starved_is, stop_is, uncertain_is, unwritten_is}
 use Rattle.trim_command.proofs.command.run_trim.Goals as goal
 

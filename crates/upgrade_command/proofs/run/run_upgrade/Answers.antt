@@ -1,6 +1,7 @@
 use Rattle.std.proofs.Common.{refl, subst, rules}
 use Rattle.command_line.specs.Upgrade.{upgrade_of}
-use Rattle.command_runs.specs.Ends.{IsPut, kept_same}
+use Rattle.command_runs.specs.Ends.{IsPut}
+use Rattle.command_runs.proofs.Ends.{kept_same}
 use Rattle.command_runs.specs.declared.status.Status.TheVariants.{Certificate}
 use Rattle.upgrade_command.proofs.Comes.{whole, caused, done_runs, faulty_runs, long_runs}
 use Rattle.upgrade_command.proofs.Comes.{unread_runs, unwritten_so, starved_so}

@@ -1,6 +1,6 @@
 use Rattle.std.proofs.Common.{arith}
 use Rattle.std.proofs.Math.Seq.{take-add}
-use Rattle.whole_texts.specs.Pieces.{appends_both, rest_of}
+use Rattle.whole_texts.proofs.Pieces.{appends_both, rest_of}
 use Rattle.whole_texts.proofs.Taking.{on_failure}
 use Rattle.whole_texts.proofs.put.put_all.Goals as goal
 

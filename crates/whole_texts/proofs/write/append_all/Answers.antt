@@ -1,9 +1,9 @@
 use Rattle.std.proofs.Common.{Ok, arith}
 use Rattle.std.proofs.Math.Seq.{take-add}
-use Rattle.whole_texts.specs.OnlyWrites.{only_writes_on, only_writes_by}
+use Rattle.whole_texts.proofs.OnlyWrites.{only_writes_on, only_writes_by}
 use Rattle.whole_texts.proofs.Taking.{on_failure}
 use Rattle.whole_texts.proofs.write.append_all.Goals as goal
-use Rattle.whole_texts.specs.Pieces.{appends_both, rest_of}
+use Rattle.whole_texts.proofs.Pieces.{appends_both, rest_of}
 
 pub returns-in_err-done-clause-err : goal.returns-in_err-done-clause-err
 returns-in_err-done-clause-err g c = on_failure _ _ _ _ c.args.bytes.now c.loop-done.done

@@ -2,8 +2,8 @@ use Rattle.std.specs.Prelude.{◌≡◌, Some, None, refl}
 use Rattle.std.proofs.Common.{sym, ap, ◌∙◌}
 use Rattle.facts.specs.declared.fact.Fact.TheVariants as fact
 use Rattle.facts.specs.declared.fact.Slot.TheVariants as slot
-use Rattle.facts.specs.CommonParts.{void_is}
-use Rattle.derivation.specs.Parts.{none_some}
+use Rattle.facts.proofs.CommonParts.{void_is}
+use Rattle.derivation.proofs.Parts.{none_some}
 use Rattle.box_trace.specs.Tables.{fact_of, known_at}
 use Rattle.box_trace.proofs.Rows.{read_at}
 use Rattle.box_trace.proofs.known.Known.is_void.Goals as goal

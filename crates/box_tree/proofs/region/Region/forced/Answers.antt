@@ -1,7 +1,7 @@
 use Rattle.std.proofs.Common.{sym, ap, subst}
 use Rattle.script_hints.specs.Few.{HaveFewPieces}
 use Rattle.box_tree.specs.Regions.{Region}
-use Rattle.box_tree.specs.InRanges.{few_behind}
+use Rattle.box_tree.proofs.InRanges.{few_behind}
 use Rattle.box_tree.proofs.Turns.{forced_of, fewer_left}
 use Rattle.box_tree.proofs.region.Region.forced.Goals as goal
 

@@ -1,6 +1,6 @@
 use Rattle.std.proofs.lemmas.Result.{err_from_is_err_and}
 use Rattle.cert_bytes.specs.Pieces.{cursor_of}
-use Rattle.cert_bytes.specs.Calls.{told_behind}
+use Rattle.cert_bytes.proofs.Calls.{told_behind}
 use Rattle.cert_bytes.proofs.Behind.{tag_err, bnd_err, abs_err, rel_err, fix_err, nzr_err}
 use Rattle.cert_bytes.proofs.claims.FactField.read.Goals as goal
 

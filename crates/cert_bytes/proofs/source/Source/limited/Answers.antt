@@ -1,9 +1,9 @@
 use Rattle.std.proofs.Common.{◌≡◌, ◌<◌, ◌+◌, ◌-◌, ◌*◌, ℕ, refl, sym, ap, subst, ◌∙◌, arith, rules}
 use Rattle.std.proofs.lemmas.Result.{err_from_is_err_and}
-use Rattle.fx_edge.specs.OnlyReads.{only_reads_none, only_reads_on}
+use Rattle.fx_edge.proofs.OnlyReads.{only_reads_none, only_reads_on}
 use Rattle.cert_bytes.specs.Reading.{limited_at}
 use Rattle.cert_bytes.specs.Pieces.{cursor_of}
-use Rattle.cert_bytes.specs.Calls.{reads_on_none, reads_on_then, told_behind}
+use Rattle.cert_bytes.proofs.Calls.{reads_on_none, reads_on_then, told_behind}
 use Rattle.cert_bytes.proofs.Limits.{one_digit, digit_ends, digit_stops, digit_fits, near_fits}
 use Rattle.cert_bytes.proofs.Limits.{near_moves, near_sum, one_more, far_begun}
 use Rattle.cert_bytes.proofs.source.Source.limited.Goals as goal

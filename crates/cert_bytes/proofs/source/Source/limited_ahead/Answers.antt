@@ -2,7 +2,7 @@ use Rattle.std.proofs.Common.{◌≡◌, ◌<◌, ◌+◌, ◌-◌, ◌*◌, ℕ
 use Rattle.std.proofs.Common.{◌∙◌, arith, rules}
 use Rattle.cert_bytes.specs.Reading.{limited_at}
 use Rattle.cert_bytes.specs.Pieces.{Agrees, cursor_of}
-use Rattle.cert_bytes.specs.Calls.{reads_on_none, reads_on_then}
+use Rattle.cert_bytes.proofs.Calls.{reads_on_none, reads_on_then}
 use Rattle.cert_bytes.proofs.Filled.{next_is}
 use Rattle.cert_bytes.proofs.Told.{name_in, style_in, agrees_for, agrees_told}
 use Rattle.cert_bytes.proofs.Limits.{one_digit, digit_ends, digit_fits, near_fits, near_moves}

@@ -1,4 +1,4 @@
-use Rattle.cert_bytes.specs.Calls.{told_behind}
+use Rattle.cert_bytes.proofs.Calls.{told_behind}
 use Rattle.cert_bytes.proofs.Told.{agrees_for}
 use Rattle.cert_bytes.proofs.Rows.{more_is}
 use Rattle.cert_bytes.proofs.source.Source.more.Goals as goal

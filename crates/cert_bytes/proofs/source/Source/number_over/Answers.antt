@@ -1,10 +1,10 @@
 use Rattle.std.proofs.Common.{◌≡◌, ◌+◌, ◌-◌, ℕ, suc, rules, arith, ap, subst}
 use Rattle.std.proofs.lemmas.Result.{err_from_is_err_and}
-use Rattle.fx_edge.specs.OnlyReads.{only_reads_none, only_reads_on}
+use Rattle.fx_edge.proofs.OnlyReads.{only_reads_none, only_reads_on}
 use Rattle.cert_bytes.specs.Reading.{bytes_at, number_at}
 use Rattle.cert_bytes.proofs.Bytes.{one_more, stops, finishes, fits, sixteen}
 use Rattle.cert_bytes.specs.Pieces.{cursor_of}
-use Rattle.cert_bytes.specs.Calls.{reads_on_none, reads_on_then, told_behind}
+use Rattle.cert_bytes.proofs.Calls.{reads_on_none, reads_on_then, told_behind}
 use Rattle.cert_bytes.proofs.source.Source.number_over.Goals as goal
 
 pub loop-have-init : goal.loop-have-init

@@ -1,10 +1,10 @@
 use Rattle.std.proofs.Common.{◌≡◌, ◌+◌, ◌-◌, [], ℕ, suc, rules, arith, subst}
 use Rattle.std.proofs.lemmas.Result.{err_from_is_err_and}
-use Rattle.fx_edge.specs.OnlyReads.{only_reads_on}
+use Rattle.fx_edge.proofs.OnlyReads.{only_reads_on}
 use Rattle.cert_bytes.specs.Reading.{references_at}
 use Rattle.cert_bytes.proofs.Rows.{one_reference, references_stop, references_end}
 use Rattle.cert_bytes.specs.Pieces.{cursor_of}
-use Rattle.cert_bytes.specs.Calls.{reads_on_then, told_behind}
+use Rattle.cert_bytes.proofs.Calls.{reads_on_then, told_behind}
 use Rattle.cert_bytes.proofs.source.Source.references.Goals as goal
 
 pub loop-have-preserved : goal.loop-have-preserved

@@ -3,7 +3,7 @@ use mir.Val.{of_z}
 use Rattle.std.proofs.Common.{arith, ap, eq-eqb, w32, w64}
 use Rattle.std.proofs.lemmas.Int.{ints}
 use Rattle.dyadic.specs.declared.number.Dyadic.{Dyadic}
-use Rattle.dyadic.specs.Values.{same_value}
+use Rattle.dyadic.proofs.Values.{same_value}
 use Rattle.dyadic.proofs.GridLemmas.{same_scaled}
 use Rattle.dyadic.proofs.number.Dyadic.is_same.Goals as goal
 

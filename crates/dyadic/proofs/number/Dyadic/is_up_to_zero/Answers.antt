@@ -1,6 +1,6 @@
 use Rattle.std.proofs.Common.{arith}
 use Rattle.std.proofs.lemmas.Int.{ints}
-use Rattle.fx_model.specs.Powers.{scaled_down, scaled_down_out}
+use Rattle.fx_model.proofs.Powers.{scaled_down, scaled_down_out}
 use Rattle.dyadic.proofs.number.Dyadic.is_up_to_zero.Goals as goal
 
 pub returns : goal.returns

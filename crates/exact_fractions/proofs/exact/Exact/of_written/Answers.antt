@@ -2,7 +2,7 @@ use Rattle.std.proofs.Common.{◌≡◌, ap, ◌∙◌, arith, to_z, of_z}
 use Rattle.std.specs.Int.{w128}
 use Rattle.std.specs.Prelude.{ℤ}
 use Rattle.std.proofs.lemmas.Int.{ints}
-use Rattle.interval.specs.Written.{two_is}
+use Rattle.interval.proofs.Written.{two_is}
 use Rattle.exact_fractions.specs.Reduced.{over}
 use Rattle.exact_fractions.proofs.Tens.{written_given}
 use Rattle.exact_fractions.proofs.exact.Exact.of_written.Goals as goal

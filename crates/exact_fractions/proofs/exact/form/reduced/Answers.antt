@@ -1,7 +1,7 @@
 use Rattle.std.proofs.Common.{◌≡◌, arith, to_z, of_z}
 use Rattle.std.specs.Int.{w128}
 use Rattle.std.proofs.lemmas.Int.{ints}
-use Rattle.exact_fractions.specs.Lowest.{over_reduced}
+use Rattle.exact_fractions.proofs.Lowest.{over_reduced}
 use Rattle.exact_fractions.proofs.exact.form.reduced.Goals as goal
 
 pub returns : goal.returns

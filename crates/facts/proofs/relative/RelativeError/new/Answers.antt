@@ -1,7 +1,8 @@
 use Rattle.std.proofs.Common.{sym, subst}
 use Rattle.fx_model.specs.Fraction.{neg_ℚ, one_ℚ}
 use Rattle.dyadic.specs.Ends.{bound_of}
-use Rattle.facts.specs.Parts.{error_from_self, error_from-none}
+use Rattle.facts.proofs.Parts.{error_from_self}
+use Rattle.facts.specs.Parts.{error_from-none}
 use Rattle.facts.specs.Ranges.{IsBelow}
 use Rattle.facts.proofs.relative.RelativeError.new.Goals as goal
 

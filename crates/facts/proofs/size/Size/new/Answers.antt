@@ -3,7 +3,8 @@ use Rattle.fx_model.specs.Fraction.{zero_ℚ}
 use Rattle.fx_model.specs.Grid as grid
 use Rattle.fx_model.specs.Enclosure.{BoundLe}
 use Rattle.dyadic.specs.Ends.{bound_of}
-use Rattle.facts.specs.Parts.{size_from_self, size_from-none}
+use Rattle.facts.proofs.Parts.{size_from_self}
+use Rattle.facts.specs.Parts.{size_from-none}
 use Rattle.facts.proofs.size.Size.new.Goals as goal
 
 pub returns-then-is_from_zero-clause-is : goal.returns-then-is_from_zero-clause-is

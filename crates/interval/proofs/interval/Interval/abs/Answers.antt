@@ -1,4 +1,4 @@
-use Rattle.interval.specs.Results.{size_only}
+use Rattle.interval.proofs.Results.{size_only}
 use Rattle.interval.proofs.interval.Interval.abs.Goals as goal
 
 pub returns-clause-is : goal.returns-clause-is

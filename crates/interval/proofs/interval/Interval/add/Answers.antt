@@ -1,4 +1,4 @@
-use Rattle.interval.specs.Results.{sum_only}
+use Rattle.interval.proofs.Results.{sum_only}
 use Rattle.interval.proofs.Sums.{ends_sum, sum_ordered}
 use Rattle.interval.specs.Ends.{range_from}
 use Rattle.interval.specs.Intervals.{range_of}

@@ -1,5 +1,6 @@
 use Rattle.std.proofs.Common.{sym}
-use Rattle.interval.specs.Results.{quotient_only, quotient_of-none}
+use Rattle.interval.proofs.Results.{quotient_only}
+use Rattle.interval.specs.Results.{quotient_of-none}
 use Rattle.interval.proofs.interval.Interval.div.Goals as goal
 
 pub returns-then-has_zero-clause-is : goal.returns-then-has_zero-clause-is

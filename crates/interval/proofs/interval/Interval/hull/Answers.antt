@@ -1,6 +1,7 @@
-use Rattle.dyadic.specs.Made.{grid_bound}
+use Rattle.dyadic.proofs.Made.{grid_bound}
 use Rattle.interval.specs.Ends.{range_from}
-use Rattle.interval.specs.Intervals.{range_of, same_ends}
+use Rattle.interval.specs.Intervals.{range_of}
+use Rattle.interval.proofs.Intervals.{same_ends}
 use Rattle.interval.specs.Meets.{hull_of}
 use Rattle.interval.proofs.Pairs.{IsKept, one_bound, hull_is, hull_ordered}
 use Rattle.interval.proofs.interval.Interval.hull.Goals as goal

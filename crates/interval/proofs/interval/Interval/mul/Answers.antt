@@ -1,4 +1,4 @@
-use Rattle.interval.specs.Results.{product_only}
+use Rattle.interval.proofs.Results.{product_only}
 use Rattle.interval.proofs.interval.Interval.mul.Goals as goal
 
 pub returns-clause-is : goal.returns-clause-is

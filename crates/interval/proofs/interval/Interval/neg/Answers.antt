@@ -1,9 +1,9 @@
 use Rattle.fx_model.specs.Enclosure.{Negations}
-use Rattle.dyadic.specs.Made.{grid_bound}
-use Rattle.interval.specs.Results.{negation_only}
+use Rattle.dyadic.proofs.Made.{grid_bound}
+use Rattle.interval.proofs.Results.{negation_only}
 use Rattle.interval.specs.Ends.{range_from}
 use Rattle.interval.specs.Intervals.{range_of}
-use Rattle.interval.specs.Enclosures.{negation_exact, negation_ordered, exact_enclosure}
+use Rattle.interval.proofs.Enclosures.{negation_exact, negation_ordered, exact_enclosure}
 use Rattle.interval.proofs.interval.Interval.neg.Goals as goal
 
 pub invariant_of-result : goal.invariant_of-result

@@ -1,5 +1,6 @@
 use Rattle.std.proofs.Common.{sym}
-use Rattle.interval.specs.Meets.{interval_from_self, interval_from-none}
+use Rattle.interval.proofs.Meets.{interval_from_self}
+use Rattle.interval.specs.Meets.{interval_from-none}
 use Rattle.interval.proofs.interval.Interval.new.Goals as goal
 
 pub returns-then-in_order-clause-is : goal.returns-then-in_order-clause-is

@@ -1,6 +1,6 @@
 use Rattle.fx_model.specs.Fraction.{le_refl}
 use Rattle.dyadic.specs.Values.{value_of}
-use Rattle.interval.specs.Results.{alone_is, point_only}
+use Rattle.interval.proofs.Results.{alone_is, point_only}
 use Rattle.interval.proofs.interval.Interval.point.Goals as goal
 
 pub invariant_of-result : goal.invariant_of-result

@@ -4,12 +4,12 @@ use Rattle.std.proofs.lemmas.Int.{ints}
 use Rattle.fx_model.specs.Fraction.{Fraction}
 use Rattle.fx_model.specs.Enclosure.{MultiplesIn, IsEnclosure}
 use Rattle.dyadic.specs.declared.number.End.{End}
-use Rattle.dyadic.specs.Made.{grid_bound}
+use Rattle.dyadic.proofs.Made.{grid_bound}
 use Rattle.interval.specs.declared.interval.Interval.{Interval}
 use Rattle.interval.specs.Ends.{AreEnds, range_from}
 use Rattle.interval.specs.Intervals.{range_of}
 use Rattle.interval.specs.Multiples.{IsEndUp, IsEndDown}
-use Rattle.interval.specs.Shrunk.{shrunk_ordered, some_multiple, shrunk_is}
+use Rattle.interval.proofs.ShrunkLaws.{shrunk_ordered, some_multiple, shrunk_is}
 use Rattle.interval.proofs.interval.Interval.shrink.Goals as goal
 
 pub returns-clause-none : goal.returns-clause-none

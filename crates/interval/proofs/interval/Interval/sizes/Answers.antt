@@ -1,10 +1,10 @@
 use Rattle.fx_model.specs.Enclosure.{Sizes}
-use Rattle.dyadic.specs.Made.{grid_bound}
+use Rattle.dyadic.proofs.Made.{grid_bound}
 use Rattle.interval.specs.Ends.{range_from}
 use Rattle.interval.specs.Exact.{IsExact}
 use Rattle.interval.specs.Intervals.{range_of}
 use Rattle.interval.proofs.Pairs.{one_bound}
-use Rattle.interval.specs.Enclosures.{exact_enclosure}
+use Rattle.interval.proofs.Enclosures.{exact_enclosure}
 use Rattle.interval.proofs.Sizes.{sizes_up, sizes_down, sizes_between, sizes_ordered}
 use Rattle.interval.proofs.interval.Interval.sizes.Goals as goal
 

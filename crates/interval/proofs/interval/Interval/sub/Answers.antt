@@ -1,5 +1,5 @@
 use Rattle.dyadic.specs.Ends.{bound_of}
-use Rattle.interval.specs.Results.{difference_only}
+use Rattle.interval.proofs.Results.{difference_only}
 use Rattle.interval.specs.Ends.{range_from}
 use Rattle.interval.specs.Intervals.{range_of}
 use Rattle.interval.proofs.Sums.{ends_difference, difference_ordered}

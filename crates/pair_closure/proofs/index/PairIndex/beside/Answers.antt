@@ -2,7 +2,7 @@ use Rattle.std.proofs.Common.{◌≡◌, ◌≤◌, length, map, Some, slice_get
 use Rattle.std.proofs.lemmas.Option.{slice_get-get_or}
 use Rattle.pair_closure.specs.Reached.{Has, IsEachOnce}
 use Rattle.pair_closure.specs.Rows.{IsIndexed}
-use Rattle.pair_closure.specs.RowLaws.{seconds_has, seconds_once}
+use Rattle.pair_closure.proofs.RowLaws.{seconds_has, seconds_once}
 use Rattle.pair_closure.proofs.RowsPut.{beside_row, beside_none}
 use Rattle.pair_closure.proofs.index.PairIndex.beside.Goals as goal
 

@@ -3,7 +3,7 @@ use Rattle.std.proofs.Common.{◌≡◌, arith, ap, ◌∙◌, ℤ, pos, to_z, o
 use Rattle.std.proofs.lemmas.Int.{ints}
 use Rattle.fx_model.specs.Powers.{scaled}
 use Rattle.fx_model.specs.Rounded.{floor, near_high}
-use Rattle.rounding.specs.Shifts.{ceiling_by, near_low_by}
+use Rattle.rounding.proofs.Shifts.{ceiling_by, near_low_by}
 use Rattle.rounding.proofs.neighbours.Neighbours.of.Goals as goal
 
 pub returns : goal.returns

@@ -3,7 +3,7 @@ use Rattle.facts.specs.declared.fact.Slot.{Slot}
 use Rattle.rule_universe.specs.Worlds.{World}
 use Rattle.rule_universe.specs.Places.{IsPlace, place_count}
 use Rattle.rule_universe.specs.Users.{AreUsers}
-use Rattle.rule_universe.specs.OnePlace.{place_within}
+use Rattle.rule_universe.proofs.OnePlace.{place_within}
 use Rattle.rule_universe.proofs.Filled.{row_users}
 use Rattle.rule_universe.proofs.universe.Universe.users_at.Goals as goal
 

@@ -1,6 +1,6 @@
 use Rattle.std.proofs.Common.{◌≤◌, sym, ap, ◌∙◌, subst, arith}
 use Rattle.script_cases.specs.Cases.{cases, case_count}
-use Rattle.script_cases.specs.Counted.{cases_are_counted}
+use Rattle.script_cases.proofs.Counted.{cases_are_counted}
 use Rattle.script_grammar.specs.Spells.{View}
 use Rattle.script_grammar.proofs.script.Script.case_count.Goals as goal
 

@@ -1,5 +1,5 @@
 use Rattle.std.proofs.Common.{◌<◌, sym, subst}
-use Rattle.expr_dag.specs.Faults.{passed}
+use Rattle.expr_dag.proofs.Faults.{passed}
 use Rattle.script_words.specs.Named.{word_of}
 use Rattle.script_grammar.specs.Steps.{read_word}
 use Rattle.script_grammar.specs.Views.{step_of}

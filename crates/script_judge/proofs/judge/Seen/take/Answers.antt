@@ -9,7 +9,7 @@ use Rattle.script_judge.specs.Names.{names_after}
 use Rattle.script_judge.specs.Nesting.{opened_after}
 use Rattle.script_judge.specs.Splits.{SplitsSeen, splits_after, ends_between}
 use Rattle.script_judge.specs.SplitViews.{splits_seen, ends_seen}
-use Rattle.script_judge.specs.FewCases.{few_ended}
+use Rattle.script_judge.proofs.FewCases.{few_ended}
 use Rattle.script_judge.specs.BoundViews.{notes_of}
 use Rattle.script_judge.specs.Views.{AreNames}
 use Rattle.script_judge.proofs.judge.Seen.take.Goals as goal

@@ -1,5 +1,5 @@
 use Rattle.std.proofs.Common.{nat_lt, sym, ap, ◌∙◌, arith}
-use Rattle.script_cases.specs.Mapped.{count_mapped, begun_mapped}
+use Rattle.script_cases.proofs.Mapped.{count_mapped, begun_mapped}
 use Rattle.script_judge.specs.SplitViews.{range_seen}
 use Rattle.script_judge.proofs.splits.Splits.has_too_many_cases.Goals as goal
 

@@ -1,6 +1,6 @@
 use Rattle.std.proofs.Common.{arith}
-use Rattle.script_cases.specs.Counted.{few_before}
-use Rattle.script_cases.specs.Mapped.{begun_mapped}
+use Rattle.script_cases.proofs.Counted.{few_before}
+use Rattle.script_cases.proofs.Mapped.{begun_mapped}
 use Rattle.script_judge.specs.SplitViews.{range_seen}
 use Rattle.script_judge.proofs.splits.Splits.ranges_at.Goals as goal
 

@@ -1,4 +1,4 @@
-use Rattle.expr_dag.specs.Faults.{passed}
+use Rattle.expr_dag.proofs.Faults.{passed}
 use Rattle.script_nodes.proofs.Grows.{product_past}
 use Rattle.script_nodes.proofs.reader.NodeReader.fused.Goals as goal
 

@@ -1,4 +1,4 @@
-use Rattle.expr_dag.specs.Faults.{passed}
+use Rattle.expr_dag.proofs.Faults.{passed}
 use Rattle.script_nodes.specs.Known.{put}
 use Rattle.script_nodes.proofs.Faults.{past}
 use Rattle.script_nodes.proofs.Grows.{rounded_grows}

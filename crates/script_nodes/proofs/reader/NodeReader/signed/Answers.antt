@@ -1,5 +1,5 @@
 use Rattle.std.proofs.Common.{sym, ap, ◌∙◌}
-use Rattle.expr_dag.specs.Faults.{passed}
+use Rattle.expr_dag.proofs.Faults.{passed}
 use Rattle.script_nodes.specs.Waits.{Reading}
 use Rattle.script_nodes.proofs.Grows.{minus_past}
 use Rattle.script_nodes.proofs.reader.NodeReader.signed.Goals as goal
