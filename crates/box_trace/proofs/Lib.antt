@@ -15,5 +15,6 @@ pub mod Started
 pub mod Given
 pub mod Steps
 pub mod Short
+pub mod Said
 pub mod RoundsLaws
 pub mod Scans

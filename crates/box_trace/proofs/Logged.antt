@@ -38,6 +38,7 @@ use Rattle.tree_certificates.specs.Coming.{coming}
 use Rattle.box_trace.specs.declared.known.Known.{Known}
 use Rattle.box_trace.specs.declared.log.Log.{Log}
 use Rattle.box_trace.specs.Tables.{fact_of, number_or, cited_at, known_at, place_in, HasRows}
+use Rattle.box_trace.proofs.Rows.{open_marked}
 use Rattle.box_trace.specs.Logs.{kept_in, IsStep, Comes, InSection, CanCite, GoesOnFrom}
 
 -- ---- what is given
@@ -84,14 +85,15 @@ module _ (u : World) (old new : Log) (rule arg : ℕ) (premises : List ℕ) (c :
   ]
 
   pub comes_rows : HasRows u old.known → Comes u old rule arg premises c new → HasRows u new.known
-  comes_rows r w = record {
-    count = elim w [
-      | inl y ↦ ap (λ (l : Log). length l.known.rows.items) y.3 ∙ r.count
-      | inr y ↦ y.count ∙ r.count
-    ];
-    proper = (let i = comes_improves r.proper w in
-        improved_proper (known_at u old.known) (known_at u new.known) c i.0 i.1 r.proper);
-  }
+  comes_rows r w = elim w [
+    | inl y ↦ subst (λ (l : Log). HasRows u l.known) (sym y.3) r
+    | inr y ↦ record {
+      count = y.count ∙ r.count;
+      proper = (let i = comes_improves r.proper (inr y) in
+          improved_proper (known_at u old.known) (known_at u new.known) c i.0 i.1 r.proper);
+      marked = open_marked u new.known y.unsaid;
+    }
+  ]
 
   pub comes_first : Comes u old rule arg premises c new → new.first ≡ old.first
   comes_first w = elim w [ inl y ↦ ap (λ (l : Log). l.first) y.3 | inr y ↦ y.first ]

@@ -21,6 +21,7 @@ use Rattle.box_trace.specs.declared.known.Cited.{Cited}
 use Rattle.box_trace.specs.declared.known.Known.{Known}
 use Rattle.box_trace.specs.Tables.{one_later, pair_number, behind_blocks, row_of, flat, row_in}
 use Rattle.box_trace.specs.Tables.{fact_of, number_or, cited_at, known_at, place_in, HasRows}
+use Rattle.box_trace.specs.Tables.{IsMarked}
 
 -- ---- blocks
 below_true : (a n : ℕ) → a < n → nat_lt a n ≡ true
@@ -147,9 +148,14 @@ pub same_places : (u : World) (k new : Known) → new.rows.items ≡ k.rows.item
 same_places u k new e = ap {B = Slot → ℕ} (λ (rows : List (Option Cited)) (s : Slot).
     number_or (row_in rows (row_of (length u.nodes) u.pairs s))) e
 
-pub same_rows : (u : World) (k new : Known) → new.rows.items ≡ k.rows.items
+-- what nobody says to be closed
+pub open_marked : (u : World) (k : Known) → k.closed ≡ false → IsMarked u k
+open_marked u k e said v = (let z : false ≡ true = sym e ∙ said in cc)
+
+pub same_rows : (u : World) (k new : Known) → new.rows.items ≡ k.rows.items → new.closed ≡ false
     → HasRows u k → HasRows u new
-same_rows u k new e r = record {
+same_rows u k new e unsaid r = record {
   count = ap length e ∙ r.count;
   proper = subst IsProper (sym (same_known u k new e)) r.proper;
+  marked = open_marked u new unsaid;
 }

@@ -1,6 +1,6 @@
 -- What a box begins with, in each section where its steps may stand.
-use Rattle.std.specs.Prelude.{◌≡◌, ◌<◌, ◌≤◌, ◌+◌, ℕ, [], length, Option, Some, None, slice_get}
-use Rattle.std.specs.Prelude.{refl}
+use Rattle.std.specs.Prelude.{◌≡◌, ◌<◌, ◌≤◌, ◌+◌, ℕ, [], length, Option, Some, None, false}
+use Rattle.std.specs.Prelude.{slice_get, refl}
 use Rattle.std.proofs.Common.{sym, ◌∙◌, ap, subst, arith}
 use Rattle.std.proofs.lemmas.Option.{slice_get_within}
 use Rattle.fx_model.specs.declared.ExprId.{ExprId}
@@ -35,16 +35,19 @@ use Rattle.box_trace.specs.declared.log.Log.{Log}
 use Rattle.box_trace.specs.Tables.{known_at, place_in, HasRows}
 use Rattle.box_trace.specs.Logs.{InSection}
 use Rattle.box_trace.specs.Boxes.{IsSectionBelow, BeginsWithin, BeginsBelow}
-use Rattle.box_trace.proofs.Rows.{same_known, same_places, same_rows}
+use Rattle.box_trace.proofs.Rows.{same_known, same_places, same_rows, open_marked}
 use Rattle.box_trace.proofs.Logged.{ComesGiven, Suffices, comes_rows, comes_first, comes_few}
 use Rattle.box_trace.proofs.Logged.{comes_section}
 
 -- rows of nothing
 pub blank_rows : (u : World) (k : Known)
     → length k.rows.items ≡ place_count (length u.nodes) u.pairs
-    → IsBlank (known_at u k) → HasRows u k
-blank_rows u k n b =
-    record { count = n; proper = λ s f e. absurd (none_some f (known_at u k s) (b s) e) }
+    → k.closed ≡ false → IsBlank (known_at u k) → HasRows u k
+blank_rows u k n unsaid b = record {
+  count = n;
+  proper = λ s f e. absurd (none_some f (known_at u k s) (b s) e);
+  marked = open_marked u k unsaid;
+}
 
 -- ---- the root
 module _ (u : World) (first : ℕ) where
@@ -137,7 +140,7 @@ module _ (u : World) (first : ℕ) where
 -- ---- a box below another
 module _ (u : World) (piece : Piece) (parent : Known) (first : ℕ)
     (old new : Log) (e : old.known.rows.items ≡ parent.rows.items) (none : old.steps.items ≡ [])
-    (f : old.first ≡ first) (r : HasRows u parent) where
+    (f : old.first ≡ first) (unsaid : old.known.closed ≡ false) (r : HasRows u parent) where
   abbrev Piece_fact : Fact
   Piece_fact = fact.Bnd piece.0 piece.1
 
@@ -166,7 +169,7 @@ module _ (u : World) (piece : Piece) (parent : Known) (first : ℕ)
       → ComesGiven u old given.Piece 0 Piece_fact new → BeginsBelow u piece parent first new
   begins_below known come =
       let rule = given_number given.Piece in
-      let rows : HasRows u old.known = same_rows u parent old.known e r in
+      let rows : HasRows u old.known = same_rows u parent old.known e unsaid r in
       let o : Option Fact = known_at u old.known (slot.Bnd piece.0) in
       record {
         rows = comes_rows u old new rule 0 [] Piece_fact rows come;

@@ -1,6 +1,6 @@
 -- What the code of one step comes to.
 use Rattle.std.specs.Prelude.{◌≡◌, ◌<◌, ◌+◌, ℕ, List, [], ◌∷◌, ◌++◌, length, Option, Some}
-use Rattle.std.specs.Prelude.{slice_set, refl}
+use Rattle.std.specs.Prelude.{slice_set, false, refl}
 use Rattle.std.proofs.Common.{sym, ◌∙◌, ap, subst, inl, inr, arith, length-set}
 use Rattle.pair_closure.specs.Reached.{IsEachOnce}
 use Rattle.facts.specs.declared.fact.Fact.{Fact}
@@ -77,9 +77,9 @@ module _ (u : World) (once : IsEachOnce u.pairs) (old : Log) (c : Fact) (place :
           ++ record { rule = rule; arg = arg; fact = k; with = with; premises = premises } ∷ []
           → new.known.rows.items ≡ slice_set old.known.rows.items here
           (Some (record { fact = k; number = number }))
-          → number ≡ old.first + length old.steps.items → new.first ≡ old.first
-          → Comes u old rule arg premises c new
-      step_done new rule arg premises with number w steps rows n first =
+          → new.known.closed ≡ false → number ≡ old.first + length old.steps.items
+          → new.first ≡ old.first → Comes u old rule arg premises c new
+      step_done new rule arg premises with number w steps rows unsaid n first =
           let met : with ≡ with_by (known_at u old.known (slot_of c)) (place_in u old.known
           (slot_of c)) c = w ∙ ap (λ o. with_by (fact_of o) (number_or o) c) found_at in
           let row : Cited = record { fact = k; number = number } in
@@ -97,5 +97,6 @@ module _ (u : World) (once : IsEachOnce u.pairs) (old : Log) (c : Fact) (place :
             others = λ s d. put_there u once old.known new.known (slot_of k) here row h rows s
                 (λ q. d (q ∙ ap slot_of kept_is));
             count = ap length rows ∙ length-set old.known.rows.items here (Some row);
+            unsaid = unsaid;
             first = first;
           })

@@ -1,6 +1,7 @@
 -- What becomes of a log as facts come, and where its steps may stand.
-use Rattle.std.specs.Prelude.{◌≡◌, ◌≢◌, ◌⊎◌, ◌≤◌, ◌+◌, ◌*◌, ℕ, List, [], ◌∷◌, ◌++◌, length, Option}
-use Rattle.std.specs.Prelude.{Some, None, slice_get, Contains}
+use Rattle.std.specs.Prelude.{◌≡◌, ◌≢◌, ◌⊎◌, ◌<◌, ◌≤◌, ◌+◌, ◌*◌, ℕ, List, [], ◌∷◌, ◌++◌, length}
+use Rattle.std.specs.Prelude.{Option, Some, None, slice_get, Contains, false}
+use Rattle.fx_model.specs.declared.ExprId.{ExprId}
 use Rattle.facts.specs.declared.fact.Fact.{Fact}
 use Rattle.facts.specs.declared.fact.Slot.{Slot}
 use Rattle.facts.specs.declared.fact.Slot.TheVariants as slot
@@ -14,6 +15,7 @@ use Rattle.rule_universe.specs.declared.placed.Placed.{Placed}
 use Rattle.rule_universe.specs.Placed.{slots_of, IsPlaced}
 use Rattle.rule_universe.specs.Sizes.{beyond_four}
 use Rattle.saturate.specs.Universes.{setting_of}
+use Rattle.saturate.specs.Closed.{IsQuietBut}
 use Rattle.cert_checker.specs.Open.{Numbered}
 use Rattle.tree_certificates.specs.Sections.{behind, ArePlaces, AreBelow, IsTraced}
 use Rattle.tree_certificates.specs.Writing.{IsWritable, givens_of}
@@ -26,6 +28,18 @@ use Rattle.box_trace.specs.declared.ends.Ends.{Ends}
 use Rattle.box_trace.specs.Scans.{IsWide}
 use Rattle.box_trace.specs.Tables.{cited_at, known_at, place_in, HasRows}
 use Rattle.box_trace.specs.Rounds.{beyond_in, AddsSteps}
+
+-- ---- where rounds begin
+-- Only instances that take the interval of an expression of the universe may conclude what the
+-- table doesn't beat.
+abbrev pub IsQuietApart : World → At → ExprId → Type 0
+IsQuietApart u at x =
+    (x.0 < length u.nodes) × IsQuietBut (setting_of u) (Some (slot.Bnd x)) at
+
+-- The same, where an expression is told and VOID isn't known.
+abbrev pub IsQuietFrom : World → At → Option ExprId → Type 0
+IsQuietFrom u at changed = at slot.Void ≡ None → (x : ExprId) → changed ≡ Some x
+    → IsQuietApart u at x
 
 -- ---- one fact comes
 -- what is kept on the slot of c
@@ -42,6 +56,7 @@ pub record IsStep (u : World) (old : Log) (rule arg : ℕ) (premises : List ℕ)
   pub others : (s : Slot) → s ≢ slot_of (kept_in u old c)
       → cited_at u new.known s ≡ cited_at u old.known s
   pub count : length new.known.rows.items ≡ length old.known.rows.items
+  pub unsaid : new.known.closed ≡ false
   pub first : new.first ≡ old.first
 
 -- What is known was as strong, and nothing changes; or there is one step more.

@@ -1,6 +1,6 @@
 -- What is known at a box, with the numbers of steps.
 use Rattle.std.specs.Prelude.{◌≡◌, ◌+◌, ◌*◌, ◌&&◌, ℕ, List, [], ◌∷◌, length, Option, Some, None}
-use Rattle.std.specs.Prelude.{slice_get, if◌then◌else◌}
+use Rattle.std.specs.Prelude.{slice_get, if◌then◌else◌, IsTrue}
 use Rattle.fx_model.specs.declared.ExprId.{ExprId}
 use Rattle.pair_closure.specs.Closure.{Pair}
 use Rattle.facts.specs.declared.fact.Fact.{Fact}
@@ -10,6 +10,8 @@ use Rattle.facts.specs.Order.{is_same}
 use Rattle.derivation.specs.Rounds.{IsProper}
 use Rattle.rule_universe.specs.Worlds.{World}
 use Rattle.rule_universe.specs.Places.{block_place, place_count}
+use Rattle.saturate.specs.Universes.{setting_of}
+use Rattle.saturate.specs.Closed.{IsClosedUnder}
 use Rattle.box_trace.specs.declared.known.Cited.{Cited}
 use Rattle.box_trace.specs.declared.known.Known.{Known}
 
@@ -79,7 +81,14 @@ step_at u k s = number_of (cited_at u k s)
 abbrev pub place_in : World → Known → Slot → ℕ
 place_in u k s = number_or (cited_at u k s)
 
--- There is just one row for each slot of the universe, and each fact stands on its own slot.
+-- Where it says that no instance concludes more, that is so, unless VOID is known.
+abbrev pub IsMarked : World → Known → Type 0
+IsMarked u k = IsTrue k.closed → known_at u k slot.Void ≡ None
+    → IsClosedUnder (setting_of u) (known_at u k)
+
+-- There is just one row for each slot of the universe, each fact stands on its own slot, and what
+-- is known is closed where it says so.
 pub record HasRows (u : World) (k : Known) : Type 0 where
   pub count : length k.rows.items ≡ place_count (length u.nodes) u.pairs
   pub proper : IsProper (known_at u k)
+  pub marked : IsMarked u k

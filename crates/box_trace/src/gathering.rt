@@ -7,8 +7,8 @@ use crate::log::Log;
 use crate::scan::{clear, take};
 use crate::writing::write_gathered;
 use facts::{Fact, Slot};
-use saturate::{Keeps, Steps};
 use rule_universe::{Placed, Universe};
+use saturate::{Keeps, Steps};
 use std::alloc::{AllocError, Global};
 use std::sync::ledger::Ledger;
 

@@ -1,5 +1,6 @@
 //! What is known at a box: for each slot at most one fact, with the number of its step.
-ghost use Rattle.std.specs.Prelude.{◌≡◌, ◌<◌, ◌↔◌, Some, IsTrue, IfOk, OnOk, length, slice_set};
+ghost use Rattle.std.specs.Prelude.{◌≡◌, ◌<◌, ◌↔◌, false, Some, IsTrue, IfOk, OnOk, length};
+ghost use Rattle.std.specs.Prelude.{slice_set};
 ghost use Rattle.facts.specs.declared.fact.Fact.TheVariants as fact;
 ghost use Rattle.facts.specs.declared.fact.Slot.TheVariants as slot;
 ghost use Rattle.derivation.specs.Rounds.{IsBlank};
@@ -25,6 +26,8 @@ pub(crate) struct Cited {
 pub struct Known {
     // By the places of slots.
     pub(crate) rows: Vec<Option<Cited>>,
+    // Where it's true, no instance concludes more than is known.
+    pub(crate) closed: bool,
 }
 
 fn flat(row: Option<Option<Cited>>) -> Option<Cited>
@@ -69,10 +72,12 @@ impl Known {
         ensures blank { IfOk result (λ k. IsBlank (known_at uni.now k)) }
         ensures rows { IfOk result
             (λ k. length k.rows.items ≡ place_count (length uni.now.nodes) uni.now.pairs) }
+        ensures unsaid { IfOk result (λ k. k.closed ≡ false) }
     {
         let count = uni.place(Slot::Void) as usize + 1;
         Ok(Known {
             rows: vec![in alloc; None; count]?,
+            closed: false,
         })
     }
 
@@ -80,15 +85,18 @@ impl Known {
     pub(crate) fn bare(alloc: Global) -> Known {
         Known {
             rows: Vec::new(alloc),
+            closed: false,
         }
     }
 
-    // The same in memory of its own.
+    // The same in memory of its own, of which nobody says that it's closed.
     pub(crate) fn copy(&self, alloc: Global) -> Result<Known, AllocError>
-        ensures { IfOk result (λ k. k.rows.items ≡ self.now.rows.items) }
+        ensures rows { IfOk result (λ k. k.rows.items ≡ self.now.rows.items) }
+        ensures unsaid { IfOk result (λ k. k.closed ≡ false) }
     {
         Ok(Known {
             rows: Vec::from_slice(alloc, &self.rows)?,
+            closed: false,
         })
     }
 
@@ -111,9 +119,11 @@ impl Known {
     // Puts a fact with its number into the row with this place.
     pub(crate) fn put(&mut self, place: u16, row: Cited)
         requires { place < length self.old.rows.items }
-        ensures { self.new.rows.items ≡ slice_set self.old.rows.items place (Some row) }
+        ensures rows { self.new.rows.items ≡ slice_set self.old.rows.items place (Some row) }
+        ensures unsaid { self.new.closed ≡ false }
     {
         self.rows[place as usize] = Some(row);
+        self.closed = false;
     }
 
     // The fact on a slot whose place is known.

@@ -2,7 +2,6 @@
 //! steps, and rounds that write at most two steps for a slot.
 #![tactic(auto)]
 
-
 mod ends;
 mod gathering;
 mod known;

@@ -10,12 +10,12 @@ ghost use Rattle.box_trace.specs.Tables.{fact_of, number_of, number_or, HasRows}
 ghost use Rattle.box_trace.specs.Logs.{Comes};
 
 use crate::known::{Cited, Known, number_of};
+use cert_bytes::StepRow;
+use cert_checker::Given;
 use facts::{Fact, meet, slot, stronger};
 use fx_edge::Items;
 use rule_universe::Universe;
 use std::alloc::{AllocError, Global};
-use cert_checker::Given;
-use cert_bytes::StepRow;
 
 /// The steps so far, the first with this number, and what they come to.
 #[derive(Drop)]

@@ -13,12 +13,12 @@ ghost use Rattle.box_trace.specs.Rounds.{BeginsBy, BeginsRootBy, IsStepIn, most_
 
 use crate::known::Known;
 use crate::log::{Log, Source};
-use fx_model::{Node, ExprId};
+use cert_checker::Given;
 use facts::{Fact, slot};
+use fx_model::{ExprId, Node};
 use interval::Interval;
 use rule_universe::Universe;
 use std::alloc::{AllocError, Global};
-use cert_checker::Given;
 
 // The hypothesis with this number.
 fn hypothesis(uni: &Universe, k: usize) -> Fact

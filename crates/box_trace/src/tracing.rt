@@ -1,5 +1,6 @@
 //! The steps of a box.
-ghost use Rattle.std.specs.Prelude.{◌<◌, ◌≤◌, ◌+◌, ◌^◌, [], IfOk, None, length};
+ghost use Rattle.std.specs.Prelude.{◌≡◌, ◌<◌, ◌≤◌, ◌+◌, ◌^◌, [], IfOk, IfSome, IsTrue, None};
+ghost use Rattle.std.specs.Prelude.{length};
 ghost use Rattle.derivation.specs.Known.{IsTableAt};
 ghost use Rattle.saturate.specs.Universes.{setting_of};
 ghost use Rattle.box_trace.specs.Tables.{known_at, HasRows};
@@ -12,12 +13,12 @@ use crate::known::Known;
 use crate::log::Log;
 use crate::rounds::rounds;
 use crate::starts::{child_start, root_start};
+use cert_bytes::StepRow;
 use fx_model::ExprId;
 use interval::Interval;
 use rule_universe::Universe;
 use saturate::rules_are_lawful;
 use std::alloc::{AllocError, Global};
-use cert_bytes::StepRow;
 
 /// A box's own steps, in their order, and its best facts, each with the number of its step: the
 /// box's own or an ancestor's.
@@ -43,8 +44,15 @@ fn trace_root(alloc: Global, uni: &Universe, height: u8, first: u64) -> Result<L
     uni.laws();
     rules_are_lawful();
     let log = root_start(alloc, uni, first)?;
-    let done = rounds(alloc, uni, height, log)?;
+    let done = rounds(alloc, uni, height, log, None)?;
     Ok(done)
+}
+
+// The expression whose interval alone is told to have changed, where the parent is closed.
+fn changed_below(parent: &Known, x: ExprId) -> Option<ExprId>
+    ensures { IfSome result (λ y. (y ≡ x) × IsTrue parent.now.closed) }
+{
+    if parent.closed { Some(x) } else { None }
 }
 
 // The log of a box below another.
@@ -70,7 +78,8 @@ fn trace_child(
     uni.laws();
     rules_are_lawful();
     let log = child_start(alloc, uni, piece, parent, first)?;
-    let done = rounds(alloc, uni, height, log)?;
+    let changed = changed_below(parent, piece.0);
+    let done = rounds(alloc, uni, height, log, changed)?;
     Ok(done)
 }
 

@@ -20,7 +20,7 @@ use Rattle.rule_universe.specs.Places.{IsPlace}
 use Rattle.saturate.specs.declared.kept.Table.{Table}
 use Rattle.saturate.specs.Tables.{fact_at, IsShaped}
 use Rattle.saturate.proofs.Places.{fact_at_proper}
-use Rattle.saturate.specs.Closed.{IsClosedUnder, IsMarked, IsQuietBut}
+use Rattle.saturate.specs.Closed.{IsClosedUnder, IsMarked}
 
 -- ---- the word that a table is closed
 said_same : (t : Table) (b : Bool) → IsSame (fact_at t) (fact_at (record t { closed = b }))
@@ -58,22 +58,6 @@ void_best u t height e =
     (best_start u (fact_at t) (fact_at_proper t)) (rw e refl) (omega arith)
 
 -- ---- a table that differs from a closed one on one slot
--- Instances whose premises stayed are quiet.
-pub quiet_below : (u : Setting) (changed : Option Slot) (at new : At) → IsClosedUnder u at →
-    Grows at new → ((s : Slot) → (changed ≡ Some s) ⊎ (new s ≡ at s)) → IsQuietBut u changed new
-quiet_below u changed at new closed grows listed due marked k i c e d x =
-    let b = closed k i c e
-    (ap (concluded u.rules i) (sym (agrees_all at new i.premises same)) ∙ x) in
-    let g = grows (slot_of c) b.0 b.1 in
-    (g.0, g.1, IsStronger-trans g.0 b.0 c g.2 b.2)
-  where
-    same : (s : Slot) → Contains i.premises s → new s ≡ at s
-    same s w =
-        elim (listed s) [
-          | inl h ↦ absurd (true_false (slice_get due k) (marked s h k (i, e, w)) d)
-          | inr h ↦ h
-        ]
-
 pub differs_at : (changed : Option Slot) (old new : Table) → IfNone changed (new ≡ old) →
     IfSome changed (λ t. (s : Slot) → s ≢ t → fact_at new s ≡ fact_at old s) →
     (s : Slot) → (changed ≡ Some s) ⊎ (fact_at new s ≡ fact_at old s)

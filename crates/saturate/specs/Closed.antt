@@ -25,7 +25,7 @@ abbrev pub IsMarkedParent : Setting → Option (Bor Table) → Type 0
 IsMarkedParent u None = Unit {0}
 IsMarkedParent u (Some parent) = IsMarked u parent.now
 
--- ---- where rounds begin; only private functions cite these
+-- ---- where rounds begin
 -- All that take the slot, if there is one, are due.
 abbrev pub AreUsersDue : List Instance → Option Slot → List Bool → Type 0
 AreUsersDue instances changed due = (s : Slot) → changed ≡ Some s → (k : ℕ) →

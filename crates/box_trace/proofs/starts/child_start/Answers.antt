@@ -17,18 +17,21 @@ use Rattle.box_trace.proofs.starts.child_start.Goals as goal
 pub come-requires-clause-rows : goal.come-requires-clause-rows
 come-requires-clause-rows c = same_rows c.args.uni.now c.args.parent.now c.begin-log.result.known
     (ap (λ (k : Known). k.rows.items) c.begin-log.ensures.known
-    ∙ c.in_ok-known.ensures) c.requires.rows
+    ∙ c.in_ok-known.ensures.rows) (ap (λ (k : Known). k.closed) c.begin-log.ensures.known
+    ∙ c.in_ok-known.ensures.unsaid) c.requires.rows
 
 pub returns-clause-improves : goal.returns-clause-improves
 returns-clause-improves c =
     let u = c.args.uni.now in
     let f : Fact = fact.Bnd c.args.piece.0 c.args.piece.1 in
     let old : Log = c.begin-log.result in
-    let same = ap (λ (k : Known). k.rows.items) c.begin-log.ensures.known ∙ c.in_ok-known.ensures in
+    let same = ap (λ (k : Known). k.rows.items) c.begin-log.ensures.known
+    ∙ c.in_ok-known.ensures.rows in
     let new = c.come.new.self in
     let i = comes_improves u old new c.given-source.result.rule c.given-source.result.arg
     c.given-source.result.premises f
-    (same_rows u c.args.parent.now old.known same c.requires.rows).proper
+    (same_rows u c.args.parent.now old.known same (ap (λ (k : Known). k.closed)
+    c.begin-log.ensures.known ∙ c.in_ok-known.ensures.unsaid) c.requires.rows).proper
     c.in_ok-_piece.ensures in (
       i.0,
       subst (λ (at : At). Improves at (known_at u new.known) f i.0)
@@ -40,14 +43,17 @@ returns-clause-begins c =
     let u = c.args.uni.now in
     let f : Fact = fact.Bnd c.args.piece.0 c.args.piece.1 in
     let old : Log = c.begin-log.result in
-    let same = ap (λ (k : Known). k.rows.items) c.begin-log.ensures.known ∙ c.in_ok-known.ensures in
+    let same = ap (λ (k : Known). k.rows.items) c.begin-log.ensures.known
+    ∙ c.in_ok-known.ensures.rows in
     let new = c.come.new.self in
     let s = c.given-source in
     let come : ComesGiven u old given.Piece 0 f new =
     comes_given u old s.result.rule s.result.arg s.result.premises f new given.Piece 0
     s.ensures.rule s.ensures.arg s.ensures.premises c.in_ok-_piece.ensures in
     begins_below u (c.args.piece.0, c.args.piece.1) c.args.parent.now c.args.first old new same
-    c.begin-log.ensures.steps c.begin-log.ensures.first c.requires.rows c.requires.variable come
+    c.begin-log.ensures.steps c.begin-log.ensures.first (ap (λ (k : Known). k.closed)
+    c.begin-log.ensures.known ∙ c.in_ok-known.ensures.unsaid) c.requires.rows c.requires.variable
+    come
 
 pub returns-clause-gives : goal.returns-clause-gives
 returns-clause-gives c =
@@ -55,7 +61,8 @@ returns-clause-gives c =
     let Old : ℕ → Type 0 = IsStepIn u c.args.parent.now in
     let f : Fact = fact.Bnd c.args.piece.0 c.args.piece.1 in
     let old : Log = c.begin-log.result in
-    let same = ap (λ (k : Known). k.rows.items) c.begin-log.ensures.known ∙ c.in_ok-known.ensures in
+    let same = ap (λ (k : Known). k.rows.items) c.begin-log.ensures.known
+    ∙ c.in_ok-known.ensures.rows in
     let new = c.come.new.self in
     let s = c.given-source in
     let come : ComesGiven u old given.Piece 0 f new =

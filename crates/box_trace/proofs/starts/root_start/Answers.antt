@@ -39,7 +39,8 @@ loop-k-init c =
           (known_at u log.known) b (λ x w. (let l : w.0 < 0 = w.1 in omega arith));
       begins = begins_blank u c.args.first log c.begin-log.ensures.first c.begin-log.ensures.steps
           (blank_rows u log.known (ap (λ (k : Known). length k.rows.items) e
-          ∙ c.in_ok-known.ensures.rows) b) b;
+          ∙ c.in_ok-known.ensures.rows) (ap (λ (k : Known). k.closed) e
+          ∙ c.in_ok-known.ensures.unsaid) b) b;
       gives = gives_none u (IsOfParent u None) c.args.first log c.begin-log.ensures.steps
           (λ n w. absurd (none_some n (step_at u log.known w.0)
           (no_step u log.known w.0 (b w.0)) w.1));

@@ -1,11 +1,28 @@
-use Rattle.std.proofs.Common.{refl}
+use Rattle.std.proofs.Common.{◌≡◌, IsTrue, refl, sym, subst}
+use Rattle.fx_model.specs.declared.ExprId.{ExprId}
 use Rattle.derivation.proofs.Begun.{child_table}
 use Rattle.saturate.specs.Universes.{setting_of}
+use Rattle.box_trace.specs.Logs.{IsQuietApart}
+use Rattle.box_trace.proofs.Said.{some_is, quiet_child}
 use Rattle.box_trace.specs.Tables.{known_at}
 use Rattle.box_trace.proofs.Steps.{steps_below}
 use Rattle.box_trace.specs.Rounds.{IsStepIn}
 use Rattle.box_trace.proofs.Added.{by_rounds}
 use Rattle.box_trace.proofs.tracing.trace_child.Goals as goal
+
+pub rounds-requires-clause-quiet : goal.rounds-requires-clause-quiet
+rounds-requires-clause-quiet c = λ v x e.
+    let u = c.args.uni.now in
+    let told = some_is (λ y. (y ≡ c.args.piece.0) × IsTrue c.args.parent.now.closed)
+    c.changed_below-changed.result x e c.changed_below-changed.ensures in
+    let P : ExprId → Type 0 = λ y. IsQuietApart u (known_at u c.in_ok-log.log.known) y in
+    let w = c.in_ok-log.ensures.improves in
+    subst P (sym told.0) (
+      c.requires.variable,
+      quiet_child (setting_of u) c.args.piece.0
+          c.args.piece.1 (known_at u c.args.parent.now) (known_at u c.in_ok-log.log.known) w.0
+          (c.requires.rows.marked told.1) w.1 v,
+    )
 
 pub returns-clause-table : goal.returns-clause-table
 returns-clause-table c = λ above b.

@@ -23,7 +23,8 @@ last_item-requires-clause-ends c =
     let its = subst (λ o. IsItsTable c.args.uni.now c.args.rounds o c.args.parent
     c.in_ok-steps.field-0.known) c.at-piece.ensures.piece c.in_ok-steps.ensures.table.best in
     let steps = subst (λ o. AreItsSteps c.args.uni.now o c.args.parent c.args.seen.steps (log_of
-    c.args.seen.steps c.in_ok-steps.field-0)) c.at-piece.ensures.piece c.in_ok-steps.ensures.steps in
+    c.args.seen.steps c.in_ok-steps.field-0)) c.at-piece.ensures.piece
+    c.in_ok-steps.ensures.steps in
     subst (λ k. MayEnd c.args.uni.now c.in_ok-steps.field-0.known k) (sym c.at-piece.ensures.is)
     (may_end c.args.plan.now c.walk_goes_on.ensures c.args.uni.now c.args.rounds s.0 s.1 s.2 s.4
     c.args.path.now c.args.parent c.args.seen s.3 s.5 c.in_ok-steps.field-0 its
@@ -47,7 +48,8 @@ written_items-requires-clause-earlier c = λ none.
     let its = subst (λ o. IsItsTable c.args.uni.now c.args.rounds o c.args.parent
     c.in_ok-steps.field-0.known) c.at-piece.ensures.piece c.in_ok-steps.ensures.table.best in
     let steps = subst (λ o. AreItsSteps c.args.uni.now o c.args.parent c.args.seen.steps (log_of
-    c.args.seen.steps c.in_ok-steps.field-0)) c.at-piece.ensures.piece c.in_ok-steps.ensures.steps in
+    c.args.seen.steps c.in_ok-steps.field-0)) c.at-piece.ensures.piece
+    c.in_ok-steps.ensures.steps in
     let last = subst (λ k. IsLast c.args.uni.now c.in_ok-steps.field-0.known k c.in_ok-last.last
     c.in_ok-last.pieces) c.at-piece.ensures.is c.in_ok-last.ensures in
     subst (CiteEarlier c.args.seen.steps) (sym c.in_ok-own.ensures)
@@ -63,7 +65,8 @@ spell_box-requires-clause-spelled c =
     let its = subst (λ o. IsItsTable c.args.uni.now c.args.rounds o c.args.parent
     c.in_ok-steps.field-0.known) c.at-piece.ensures.piece c.in_ok-steps.ensures.table.best in
     let steps = subst (λ o. AreItsSteps c.args.uni.now o c.args.parent c.args.seen.steps (log_of
-    c.args.seen.steps c.in_ok-steps.field-0)) c.at-piece.ensures.piece c.in_ok-steps.ensures.steps in
+    c.args.seen.steps c.in_ok-steps.field-0)) c.at-piece.ensures.piece
+    c.in_ok-steps.ensures.steps in
     let last = subst (λ k. IsLast c.args.uni.now c.in_ok-steps.field-0.known k c.in_ok-last.last
     c.in_ok-last.pieces) c.at-piece.ensures.is c.in_ok-last.ensures in
     let e = c.as_slice.ensures.value ∙ c.in_ok-items.ensures
@@ -81,7 +84,8 @@ spell_box-requires-clause-steps c =
     let its = subst (λ o. IsItsTable c.args.uni.now c.args.rounds o c.args.parent
     c.in_ok-steps.field-0.known) c.at-piece.ensures.piece c.in_ok-steps.ensures.table.best in
     let steps = subst (λ o. AreItsSteps c.args.uni.now o c.args.parent c.args.seen.steps (log_of
-    c.args.seen.steps c.in_ok-steps.field-0)) c.at-piece.ensures.piece c.in_ok-steps.ensures.steps in
+    c.args.seen.steps c.in_ok-steps.field-0)) c.at-piece.ensures.piece
+    c.in_ok-steps.ensures.steps in
     let e : length c.as_slice.result.now ≡ length (written_of c.in_ok-last.pieces c.args.seen.steps
     (section_of c.in_ok-steps.field-0.steps.items c.in_ok-last.last)) =
     ap length (c.as_slice.ensures.value ∙ c.in_ok-items.ensures
@@ -102,7 +106,8 @@ spell_box-requires-clause-sections c =
     let its = subst (λ o. IsItsTable c.args.uni.now c.args.rounds o c.args.parent
     c.in_ok-steps.field-0.known) c.at-piece.ensures.piece c.in_ok-steps.ensures.table.best in
     let steps = subst (λ o. AreItsSteps c.args.uni.now o c.args.parent c.args.seen.steps (log_of
-    c.args.seen.steps c.in_ok-steps.field-0)) c.at-piece.ensures.piece c.in_ok-steps.ensures.steps in
+    c.args.seen.steps c.in_ok-steps.field-0)) c.at-piece.ensures.piece
+    c.in_ok-steps.ensures.steps in
     let e : length c.as_slice.result.now ≡ length (written_of c.in_ok-last.pieces c.args.seen.steps
     (section_of c.in_ok-steps.field-0.steps.items c.in_ok-last.last)) =
     ap length (c.as_slice.ensures.value ∙ c.in_ok-items.ensures
@@ -122,7 +127,8 @@ returns-clause-own c = λ t lines states p is before.
     let its = subst (λ o. IsItsTable c.args.uni.now c.args.rounds o c.args.parent
     c.in_ok-steps.field-0.known) c.at-piece.ensures.piece c.in_ok-steps.ensures.table.best in
     let steps = subst (λ o. AreItsSteps c.args.uni.now o c.args.parent c.args.seen.steps (log_of
-    c.args.seen.steps c.in_ok-steps.field-0)) c.at-piece.ensures.piece c.in_ok-steps.ensures.steps in
+    c.args.seen.steps c.in_ok-steps.field-0)) c.at-piece.ensures.piece
+    c.in_ok-steps.ensures.steps in
     let last = subst (λ k. IsLast c.args.uni.now c.in_ok-steps.field-0.known k c.in_ok-last.last
     c.in_ok-last.pieces) c.at-piece.ensures.is c.in_ok-last.ensures in
     let e = c.as_slice.ensures.value ∙ c.in_ok-items.ensures

@@ -39,5 +39,6 @@ returns c =
     c.place-here.result) c.slot.ensures c.place-here.ensures)
     (record c.args.self.now { steps = c.push.new.self; known = c.put.new.self }) c.args.source.rule
     c.args.source.arg c.args.source.premises _ _
-    (c.number_of-with.ensures ∙ c.in-Some.ensures.with) c.in_ok-push.ensures.items c.put.ensures
+    (c.number_of-with.ensures ∙ c.in-Some.ensures.with) c.in_ok-push.ensures.items
+    c.put.ensures.rows c.put.ensures.unsaid
     (omega (arith, c.len.ensures, c.args.self.now.steps.ok.0)) refl
