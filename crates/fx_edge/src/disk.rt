@@ -114,23 +114,36 @@ impl LastRead {
     }
 }
 
-// Opens the name to be written and empties it, or leaves it as it was where it is a file that was
-// read. What is no plain file, as a pipe or a device, has no bytes to lose.
+// Whether standard output leads to the file. What can't be asked is taken for another file.
+fn is_output<R: Files>(rt: &R, id: FileId) -> bool {
+    match fs::metadata(rt, "/proc/self/fd/1") {
+        Ok(about) => FileId::of(&about).is_same(id),
+        Err(_) => false,
+    }
+}
+
+// Opens the name to be written and empties it, or leaves it as it was if it is a file that was
+// read, or the file that standard output leads to, as lines would be written over its bytes. What
+// is no plain file, as a pipe or a device, has no bytes to lose.
 fn empty_new<R: Files>(rt: &R, name: &str, read: LastRead) -> io::Result<()> {
     let file = OpenOptions::new().write(true).create(true).open(rt, name)?;
     let about = file.metadata()?;
-    if read.has(FileId::of(&about)) {
+    let id = FileId::of(&about);
+    if read.has(id) {
         return Err(io::Error::from(ErrorKind::AlreadyExists));
     }
     if about.is_file() {
+        if is_output(rt, id) {
+            return Err(io::Error::from(ErrorKind::AlreadyExists));
+        }
         file.set_len(0)?;
     }
     Ok(())
 }
 
 /// The files of the folder that the program runs in. Each call opens its file. A file that was read
-/// isn't made new under any of its names (the last two are known by device and number): that call
-/// fails.
+/// isn't made new under any of its names (the last two are known by device and number), nor is the
+/// file that standard output leads to: that call fails.
 #[derive(Drop)]
 pub struct DiskFolder<R: Files + Clone + Drop> {
     rt: R,
