@@ -77,18 +77,18 @@ module _ (a : Asked) (r : Run) (text bytes : Bytes) (w : HasWritten a r text byt
       never (inr e) = cc (sym w.answered ∙ e)
 
 -- ---- what `check` answers to that
--- the answer of `prove` is one of `check`, where the certificate is accepted
-checked : SpelledAreAccepted → (o : Options) (text lines bytes : Bytes) → length bytes ≤ 2 ^ 44
-    → (d : IsAnswered o text lines) → AreAcceptedFor d.script bytes d.shown
-    → IsChecked text (Some bytes) lines
-checked law o text lines bytes short d accepts =
+-- what is checked so is checked of other bytes, too, where these are accepted with the same lines
+pub checked_of : SpelledAreAccepted → (text lines bytes : Bytes) (cert : Option Bytes)
+    → length bytes ≤ 2 ^ 44 → (d : IsChecked text cert lines)
+    → AreAcceptedFor d.script bytes d.shown → IsChecked text (Some bytes) lines
+checked_of law text lines bytes cert short d accepts =
     let comes = law accepts.subject bytes accepts.accepted.items d.shown short
     accepts.accepted.spelled accepts.accepted.accepts in
     record {
       script = d.script;
       shown = d.shown;
       marks = d.marks;
-      spelled = d.proved.spelled;
+      spelled = d.spelled;
       comes = λ all known. let one : bytes ≡ all = cc known in
           subst (λ (b : Bytes). (end : Context)
           × ComesFor d.script (cursor First b 0) (accepted end)
@@ -96,17 +96,38 @@ checked law o text lines bytes short d accepts =
           (comes.0, (accepts.subject, accepts.is, comes.1), sym comes.2);
       accepts = λ all known are. let one : bytes ≡ all = cc known in
           subst (λ (b : Bytes). AreAcceptedFor d.script b d.shown) one accepts;
+      words = d.words;
+      each = d.each;
+      holds = d.holds;
+      marked = d.marked;
+      printed = d.printed;
+    }
+
+-- the answer of `prove` is one of `check`, where the certificate is accepted
+checked : SpelledAreAccepted → (o : Options) (text lines bytes : Bytes) → length bytes ≤ 2 ^ 44
+    → (d : IsAnswered o text lines) → AreAcceptedFor d.script bytes d.shown
+    → IsChecked text (Some bytes) lines
+checked law o text lines bytes short d accepts =
+    checked_of law text lines bytes None short
+    (record {
+      script = d.script;
+      shown = d.shown;
+      marks = d.marks;
+      spelled = d.proved.spelled;
+      comes = λ all known. absurd (cc known);
+      accepts = λ all known are. absurd (cc known);
       words = d.proved.words;
       each = d.proved.each;
       holds = d.proved.holds;
       marked = d.marked;
       printed = d.printed;
-    }
+    })
+    accepts
 
 module _ (once : CheckAnswersAreOne) (b : AskedCheck) (q : Run) (text bytes : Bytes)
     (k : HasChecked b q text bytes) where
   -- a run that was answered put the lines that are defined
-  same_lines : (lines : Bytes) → IsChecked text (Some bytes) lines
+  pub same_lines : (lines : Bytes) → IsChecked text (Some bytes) lines
       → q.status ≡ status.Answered → Puts q lines
   same_lines lines c answered =
       by (subst (λ s. EndsIn s None (CheckFate b q) q) answered k.ran.ends.runs.ends) where
@@ -123,7 +144,8 @@ module _ (once : CheckAnswersAreOne) (b : AskedCheck) (q : Run) (text bytes : By
 pub written_are_answered : SpelledAreAccepted → CheckAnswersAreOne → WrittenAreAnswered
 written_are_answered law once a b r q text bytes w k = by (printed a r text bytes w) where
   by : Printed a r text bytes w → Comes status.Answered q.status
-      × (q.status ≡ status.Answered → (lines : Bytes) × Puts r lines × Puts q lines)
+      × (q.status ≡ status.Answered → (lines : Bytes) × IsAnswered (options_of a) text lines
+      × Puts r lines × Puts q lines)
   by (lines, d, cert, put) =
       let few = short a r text bytes w d.script d.shown cert in
       let c = checked law (options_of a) text lines bytes few d cert.written.accepted in (
@@ -134,5 +156,5 @@ written_are_answered law once a b r q text bytes w k = by (printed a r text byte
           short = few;
           accepted = cert.written.accepted;
         }),
-        λ answered. (lines, put, same_lines once b q text bytes k lines c answered),
+        λ answered. (lines, d, put, same_lines once b q text bytes k lines c answered),
       )

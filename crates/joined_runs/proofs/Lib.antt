@@ -1,3 +1,4 @@
 pub mod Again
 pub mod Programs
 pub mod Points
+pub mod Trimmed

@@ -12,12 +12,14 @@ use Rattle.command_line.specs.At.{AskedAt}
 use Rattle.command_line.specs.Check.{AskedCheck}
 use Rattle.command_line.specs.Fix.{AskedFix}
 use Rattle.command_line.specs.Reading.{Asked}
+use Rattle.command_line.specs.Trim.{AskedTrim}
 use Rattle.command_runs.specs.Fates.{Comes}
 use Rattle.command_runs.specs.Runs.{Bytes, Run, Puts}
 use Rattle.command_runs.specs.declared.status.Status.TheVariants as status
 use Rattle.script_answers.specs.Answers.{IsAnswered, options_of}
 use Rattle.prove_command.specs.Command.{IsProveRun}
 use Rattle.check_command.specs.Command.{IsCheckRun}
+use Rattle.trim_command.specs.Command.{IsTrimRun}
 use Rattle.fix_command.specs.Command.{IsFixRun}
 use Rattle.at_command.specs.Command.{IsAtRun}
 use Rattle.at_command.specs.Told.{IsEvaluated}
@@ -42,12 +44,34 @@ pub record HasChecked (b : AskedCheck) (q : Run) (text bytes : Bytes) : Type 0 w
   pub cert : q.before.told b.cert ≡ Some bytes
 
 -- What `prove` wrote, `check` answers, or else a fault of the outside comes, or lack of memory; and
--- then it puts the lines that `prove` put.
+-- then it puts the lines that `prove` put, which answer the script.
 abbrev pub WrittenAreAnswered : Type 0
 WrittenAreAnswered = (a : Asked) (b : AskedCheck) (r q : Run) (text bytes : Bytes)
     → HasWritten a r text bytes → HasChecked b q text bytes
     → Comes status.Answered q.status
-    × (q.status ≡ status.Answered → (lines : Bytes) × Puts r lines × Puts q lines)
+    × (q.status ≡ status.Answered → (lines : Bytes) × IsAnswered (options_of a) text lines
+    × Puts r lines × Puts q lines)
+
+-- ---- of certificates that are trimmed
+-- A run of `trim` was answered: of a script and a certificate that the folder told, with a new file
+-- in a told one, which holds these bytes now.
+pub record HasTrimmed (a : AskedTrim) (r : Run) (text cert bytes : Bytes) : Type 0 where
+  pub ran : IsTrimRun a r
+  pub answered : r.status ≡ status.Answered
+  pub script : r.before.told a.script ≡ Some text
+  pub told : r.before.told a.cert ≡ Some cert
+  pub old : Bytes
+  pub held : r.before.told a.new ≡ Some old
+  pub holds : r.after.told a.new ≡ Some bytes
+
+-- What `trim` wrote, `check` answers, or else a fault of the outside comes, or lack of memory; and
+-- then it puts the lines that a run of `check` on the old certificate puts that is answered.
+abbrev pub TrimmedAreAnswered : Type 0
+TrimmedAreAnswered = (a : AskedTrim) (b : AskedCheck) (r q : Run) (text cert bytes : Bytes)
+    → HasTrimmed a r text cert bytes → HasChecked b q text bytes
+    → Comes status.Answered q.status
+    × ((c : AskedCheck) (p : Run) → HasChecked c p text cert → p.status ≡ status.Answered
+    → q.status ≡ status.Answered → (lines : Bytes) × Puts p lines × Puts q lines)
 
 -- ---- of programs
 -- A run of `fix` was answered: of a program whose text the folder told, with a script in a told

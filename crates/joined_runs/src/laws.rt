@@ -1,10 +1,12 @@
 // What a run leaves for another.
-ghost use Rattle.joined_runs.specs.Laws.{FixedProgramsAreSound, PointsAreHeld, WrittenAreAnswered};
+ghost use Rattle.joined_runs.specs.Laws.{FixedProgramsAreSound, PointsAreHeld};
+ghost use Rattle.joined_runs.specs.Laws.{TrimmedAreAnswered, WrittenAreAnswered};
 
 use at_command::meeting_points_meet;
 use cert_checker::bytes_are_accepted;
 use check_command::check_answers_are_one;
 use program_truths::no_run_wraps;
+use script_checker::checks_are_one;
 use script_grammar::script_or_refusal;
 
 /// The law that `check` answers what `prove --cert` wrote with the lines that were printed then.
@@ -12,6 +14,17 @@ use script_grammar::script_or_refusal;
 pub fn written_certificates_are_answered()
     ensures { WrittenAreAnswered }
 {
+    bytes_are_accepted();
+    check_answers_are_one();
+}
+
+/// The law that `check` answers what `trim` wrote, with the lines that the old certificate has.
+/// Nothing is done.
+pub fn trimmed_certificates_are_answered()
+    ensures { TrimmedAreAnswered }
+{
+    script_or_refusal();
+    checks_are_one();
     bytes_are_accepted();
     check_answers_are_one();
 }

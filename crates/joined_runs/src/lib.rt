@@ -3,4 +3,7 @@
 
 mod laws;
 
-pub use laws::{fixed_programs_are_sound, meeting_points_are_held, written_certificates_are_answered};
+pub use laws::{
+    fixed_programs_are_sound, meeting_points_are_held, trimmed_certificates_are_answered,
+    written_certificates_are_answered,
+};
