@@ -15,16 +15,16 @@ ghost use Rattle.settler.specs.Frames.{Fits};
 
 use crate::entry::Entry;
 use crate::frame::Frame;
-use box_tree::{Cut, Plan};
 use bisect::{Settler, State, Verdict};
+use box_tree::{Cut, Plan};
+use derivation::{best_tables_exist, boxes_come_to_one_state};
+use facts::Fact;
 use fx_edge::{Items, Path};
 use fx_model::ExprId;
-use saturate::{Area, Settled, Table, rules_are_lawful, settle};
-use facts::Fact;
 use goals::{Goal, settling_facts};
 use interval::Interval;
 use rule_universe::Universe;
-use derivation::{best_tables_exist, boxes_come_to_one_state};
+use saturate::{Area, Settled, Table, rules_are_lawful, settle};
 use std::alloc::{AllocError, Global};
 use std::marker::{Model, PhantomData};
 
@@ -121,7 +121,8 @@ impl<'a, F: Frame> Boxes<'a, F> {
         ensures piece { piece_at F.plan path.now ≡ Some result }
         ensures variable { (result.0).0 < length F.universe.nodes }
     {
-        let _ = (self.plan, path);
+        let _rounds = self.rounds;
+        let _depth = path.len();
         let Some(piece) = last else { unreachable!() };
         piece
     }

@@ -3,12 +3,12 @@ ghost use Rattle.std.specs.Prelude.{◌≤◌, IfOk};
 ghost use Rattle.script_grammar.specs.Cases.{cases_of};
 ghost use Rattle.settler.specs.Cases.{AreCases, IsLawful};
 
-use script_claims::Claim;
-use box_tree::Plan;
 use bisect::leaves_cover;
-use fx_edge::Items;
+use box_tree::Plan;
 use derivation::known_facts_hold;
+use fx_edge::Items;
 use saturate::rules_are_sound_for;
+use script_claims::Claim;
 use script_grammar::Script;
 use std::alloc::{AllocError, Global};
 

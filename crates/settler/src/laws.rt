@@ -11,11 +11,11 @@ ghost use Rattle.settler.specs.One.{OneCaseIsAll, ProvedInOneCase};
 ghost use Rattle.settler.specs.Cases.{LawfulCasesHold};
 ghost use Rattle.settler.specs.Held.{CasesHold, ProvedHolds};
 
-use case_trees::{cases_answer_once, cases_are_told, lines_cover_cases};
 use box_tree::pieces_are_of_hypotheses;
-use rule_universe::Universe;
+use case_trees::{cases_answer_once, cases_are_told, lines_cover_cases};
 use derivation::boxes_come_to_one_state;
 use goals::settling_facts;
+use rule_universe::Universe;
 use script_truths::{goals_are_true, some_case_is_met, what_is_given_is_true};
 use universe::universes_are_one;
 

@@ -2,7 +2,6 @@
 //! script has one answer.
 #![tactic(auto)]
 
-
 mod boxes;
 mod cases;
 mod entry;
@@ -14,5 +13,8 @@ pub use boxes::Boxes;
 pub use cases::{Case, planned_cases};
 pub use entry::Entry;
 pub use frame::Frame;
-pub use laws::{answers_are_one, one_case_is_all, open_leaves_are_first, plans_fit, proved_answers_hold, proved_lines_are_tight};
+pub use laws::{
+    answers_are_one, one_case_is_all, open_leaves_are_first, plans_fit, proved_answers_hold,
+    proved_lines_are_tight,
+};
 pub use run::{answer, answer_alone};

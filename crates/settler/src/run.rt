@@ -18,21 +18,21 @@ use crate::boxes::Boxes;
 use crate::cases::Case;
 use crate::frame::Frame;
 use crate::laws::{cases_hold, plans_fit, proved_answers_hold};
-use box_workers::run;
-use case_trees::{CaseOutcome, Gathered, trees_are_gathered};
 use bisect::{Outcome, run_alone};
 use box_tree::Plan;
-use fx_edge::Gate;
-use rule_universe::Universe;
+use box_workers::run;
+use case_trees::{CaseOutcome, Gathered, trees_are_gathered};
 use derivation::{best_tables_exist, boxes_come_to_one_state};
-use saturate::rules_are_lawful;
+use fx_edge::Gate;
 use goals::settling_facts;
+use rule_universe::Universe;
+use saturate::rules_are_lawful;
 use script_grammar::Script;
-use universe::assume;
 use std::alloc::{AllocError, Global};
 use std::marker::Brand;
 use std::sync::Wait;
 use std::thread::Threads;
+use universe::assume;
 
 // The answer of a frame's tree by workers.
 fn answer_in<F: Frame + Send + Sync, G: Gate, R: Threads + Wait + Sync>(
