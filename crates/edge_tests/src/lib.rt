@@ -19,3 +19,5 @@ mod of_name_list;
 mod paths;
 #[cfg(test)]
 mod shared_lanes;
+#[cfg(test)]
+mod stolen_jobs;

@@ -1,5 +1,8 @@
 //! Words after a command, and what they ask for, worked out by hand.
-use command_line::{WordsError, read_at, read_batch, read_check, read_fix, read_gen, read_prove, read_trim, read_upgrade};
+use command_line::{
+    WordsError, read_at, read_batch, read_check, read_fix, read_gen, read_prove, read_trim,
+    read_upgrade,
+};
 use std::alloc::{AllocError, Global};
 use std::fmt::Debug;
 use std::process::Abort;

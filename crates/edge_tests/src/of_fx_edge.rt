@@ -1,6 +1,8 @@
 //! What no clause says: that memory is found, that a disk keeps what was written, and what comes
 //! after a real error.
-use fx_edge::{DiskFolder, Failed, Folder, MemFolder, MemSink, Sink, StdSink, SureFolder, SureSink};
+use fx_edge::{
+    DiskFolder, Failed, Folder, MemFolder, MemSink, Sink, StdSink, SureFolder, SureSink,
+};
 use std::alloc::{AllocError, Global};
 use std::io::{ErrorKind, Write};
 use std::test::Fail;

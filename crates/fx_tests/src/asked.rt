@@ -2,8 +2,8 @@
 ghost use Rattle.std.specs.Prelude.{None};
 
 use crate::runs::words_of;
-use fx_edge::{Failed, Folder, OpenGate, SureSink};
 use command_runs::Status;
+use fx_edge::{Failed, Folder, OpenGate, SureSink};
 use fx_top::fx_run;
 use std::alloc::Global;
 use std::process::Abort;

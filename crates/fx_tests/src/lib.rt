@@ -18,6 +18,8 @@ mod limits;
 #[cfg(test)]
 mod literals;
 #[cfg(test)]
+mod long_files;
+#[cfg(test)]
 mod made;
 #[cfg(test)]
 mod made_files;

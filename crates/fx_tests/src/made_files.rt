@@ -294,7 +294,7 @@ fn nothing_is_written_before_all_was_read(rt: HostRuntime) -> Result<(), Fail> {
     Ok(())
 }
 
-// What `fix` writes is proved; where a run may wrap, it isn't.
+// What `fix` writes of a square is proved.
 #[test]
 fn written_scripts_are_proved(rt: HostRuntime) -> Result<(), Fail> {
     let files = [("n", SQUARE_SCRIPT.as_bytes())];

@@ -19,7 +19,7 @@ const PRODUCT: &str = "{ x in [1,2] /\\ y in [3,5] -> x * y in ? }";
 const OPEN: &str = "{ x in ? }";
 
 // The texts of `a` and `b`, and how `at` ends on them.
-const POINTS: [(&str, &str, Status, &str); 9] = [
+const POINTS: [(&str, &str, Status, &str); 14] = [
     (
         ROUNDED,
         "x = 1 / 3;",
@@ -45,6 +45,39 @@ const POINTS: [(&str, &str, Status, &str); 9] = [
         "hypothesis 1: fails\nhypothesis 2: holds\ngoal 1: 0\npoint: misses\n",
     ),
     (OPEN, "x = 1b200;", Status::TooWide, "too wide: entry 1\n"),
+    // four variables, in another order than that of the script
+    (
+        "{ a in [0,1] /\\ b <= 1 -> a + b + c + d in ? }",
+        "d = 1/2; c = 0; b = 1; a = 1;",
+        Status::Answered,
+        "hypothesis 1: holds\nhypothesis 2: holds\ngoal 1: 5/2\npoint: meets\n",
+    ),
+    // a relative goal whose two sides are 0, and a hint that is assumed
+    (
+        "{ x -/ y in [0.5,1] } x -> x + 1 { x < 0 };",
+        "y = 0; x = 0;",
+        Status::Answered,
+        "goal 1: zero, holds\nhint 1: holds\npoint: meets\n",
+    ),
+    // numbers that are too wide, by where they stand
+    (
+        "{ x * x in ? }",
+        "x = 1b64;",
+        Status::TooWide,
+        "too wide: node 1\n",
+    ),
+    (
+        "{ x in [0,1b200] -> 1 / (x - x) in [0,1b200] }",
+        "x = 1;",
+        Status::TooWide,
+        "too wide: hypothesis 1\n",
+    ),
+    (
+        "{ x in ? } y -> x { x < 0, x < 1b200 };",
+        "x = 1; y = 2;",
+        Status::TooWide,
+        "too wide: hint 1\n",
+    ),
     (OPEN, "", Status::Point, "point: Missing at 0\n"),
     (OPEN, "x = 1; x = 2;", Status::Point, "point: Twice at 7\n"),
     (OPEN, "z = 1;", Status::Point, "point: Unknown at 0\n"),

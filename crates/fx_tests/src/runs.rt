@@ -1,6 +1,6 @@
 // One run over memory forms, and what it has to answer.
-use fx_edge::{MemFolder, MemSink, OpenGate, SureFolder, SureSink};
 use command_runs::Status;
+use fx_edge::{MemFolder, MemSink, OpenGate, SureFolder, SureSink};
 use fx_top::fx_run;
 use std::alloc::{AllocError, Global};
 use std::process::Abort;

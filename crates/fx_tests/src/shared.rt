@@ -1,7 +1,7 @@
 // Two workers share the boxes of a script: what no clause can tell of a run.
 use crate::runs::words_of;
-use fx_edge::{Gate, Path, SureFolder, SureSink};
 use command_runs::Status;
+use fx_edge::{Gate, Path, SureFolder, SureSink};
 use fx_top::fx_run;
 use std::sync::atomic::{AtomicU64, Ordering};
 use std::test::Fail;

@@ -18,6 +18,8 @@ mod of_box_workers;
 #[cfg(test)]
 mod of_case_trees;
 #[cfg(test)]
+mod of_saturate;
+#[cfg(test)]
 mod of_universe;
 #[cfg(test)]
 mod records;

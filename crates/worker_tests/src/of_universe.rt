@@ -1,9 +1,9 @@
 // Sizes of universes that another program counted: expressions, pairs, instances.
+use rule_universe::Universe;
 use script_grammar::{Script, parse};
 use std::alloc::Global;
 use std::process::Abort;
 use std::test::Fail;
-use rule_universe::Universe;
 use universe::{UniverseFault, build};
 
 type Sizes = (u16, usize, usize);
