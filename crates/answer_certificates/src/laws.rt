@@ -10,11 +10,11 @@ ghost use Rattle.answer_certificates.specs.Universes.{UniversesAreSmall};
 
 use bisect::{boxes_are_listed, one_answer};
 use box_tree::few_cuts_end;
-use saturate::rules_are_lawful;
-use universe::universes_are_one;
-use script_truths::universes_extend;
 use derivation::best_tables_exist;
+use saturate::rules_are_lawful;
+use script_truths::universes_extend;
 use tree_certificates::{certificates_exist, rules_fit_steps};
+use universe::universes_are_one;
 
 /// Nothing is done. The clauses tell a caller that what derivations over a script's universe
 /// conclude can be written as steps, that there are at most 2^22 instances, and that in each case

@@ -6,10 +6,13 @@ ghost use Rattle.universe.specs.Universes.{IsUniverse};
 ghost use Rattle.answer_certificates.specs.Scripts.{HasCases, ScriptsHaveRoom, HasSlots};
 ghost use Rattle.answer_certificates.specs.Scripts.{GoalsHaveSlots};
 
-use script_grammar::{Script, spelled_are_short, spelled_have_few_cases, spelled_have_few_constraints, spelled_have_few_hints};
+use rule_universe::Universe;
+use script_grammar::{
+    Script, spelled_are_short, spelled_have_few_cases, spelled_have_few_constraints,
+    spelled_have_few_hints,
+};
 use script_shape::shape::leaves_are_of_trees;
 use script_words::lex::lexed_once;
-use rule_universe::Universe;
 use universe::hypotheses_have_slots;
 
 /// Nothing is done. The clauses tell a caller that certificates have room for each case of a

@@ -2,8 +2,8 @@
 ghost use Rattle.std.specs.Prelude.{◌≡◌, IfOk};
 ghost use Rattle.at_command.specs.Lines as spec;
 
-use point_values::Place;
 use point_text::{PointFault, PointKind};
+use point_values::Place;
 use std::alloc::{AllocError, Global};
 
 // The kind's name.

@@ -7,18 +7,18 @@ mod rows;
 use crate::clock::Least;
 use crate::numbers::{Draw, with_part};
 use anyhow::Result;
-use expr_dag::Dag;
 use dyadic::End;
+use expr_dag::Dag;
 use facts::{Fact, HintRow, Slot};
-use interval::Interval;
 use fx_edge::Items;
+use interval::Interval;
 use nodes::{X, Y, nodes};
 use premises::premises_of;
 use rows::{ROWS, Row};
-use theorem_list::conclude;
 use std::alloc::{AllocError, Global};
 use std::rt::Clock;
 use std::time::Instant;
+use theorem_list::conclude;
 
 /// How many lists of premises a rule is given, in turn.
 const LISTS: u32 = 64;

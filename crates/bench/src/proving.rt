@@ -3,8 +3,8 @@
 use crate::clock::Least;
 use crate::folders::folder_of;
 use anyhow::Result;
-use fx_edge::{OpenGate, SureSink};
 use command_runs::Status;
+use fx_edge::{OpenGate, SureSink};
 use fx_top::fx_run;
 use std::alloc::{AllocError, Global};
 use std::rt::Clock;

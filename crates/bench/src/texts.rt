@@ -2,8 +2,8 @@
 
 use crate::filled::{Filling, copies, filled};
 use anyhow::Result;
-use script_words::words::read_words;
 use script_shape::shape::shape_of;
+use script_words::words::read_words;
 use std::rt::Clock;
 use std::time::Instant;
 

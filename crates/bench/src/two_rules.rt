@@ -3,10 +3,10 @@
 use crate::clock::each;
 use crate::numbers::{table, weight, with_part};
 use anyhow::Result;
-use expr_dag::Dag;
-use fx_model::{ExprId, Node};
 use dyadic::{Dyadic, End};
+use expr_dag::Dag;
 use facts::{Fact, Slot};
+use fx_model::{ExprId, Node};
 use interval::Interval;
 use std::alloc::{AllocError, Global};
 use std::rt::Clock;

@@ -3,11 +3,11 @@
 use crate::clock::Least;
 use anyhow::Result;
 use made_script::made_script;
+use rule_universe::Universe;
 use script_grammar::{Script, parse};
 use std::alloc::Global;
 use std::rt::Clock;
 use std::time::Instant;
-use rule_universe::Universe;
 use universe::{assume, build};
 
 /// The degrees of the made scripts: universes of 106, 502 and 1,024 expressions.

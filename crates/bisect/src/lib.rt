@@ -1,7 +1,6 @@
 //! Bisection: the answer of a tree of boxes.
 #![tactic(auto)]
 
-
 mod alone;
 mod laws;
 mod lines;

@@ -4,8 +4,8 @@ ghost use Rattle.bisect.specs.Gathered as spec;
 
 use crate::outcome::Leaf;
 use crate::settler::State;
-use goals::Line;
 use fx_edge::Items;
+use goals::Line;
 use std::alloc::{AllocError, Global};
 
 // The line with what a box's state knows of the goal.

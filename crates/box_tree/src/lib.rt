@@ -1,7 +1,6 @@
 //! Where boxes are cut, and what their pieces are.
 #![tactic(auto)]
 
-
 mod boxes;
 mod cut;
 mod halves;

@@ -5,9 +5,9 @@ ghost use Rattle.script_hints.specs.Few.{HaveFewPieces};
 ghost use Rattle.box_tree.specs.Ranges.{IsOrdered};
 
 use crate::range::SplitRange;
-use script_hints::hint::Split;
-use fx_model::ExprId;
 use fx_edge::Items;
+use fx_model::ExprId;
+use script_hints::hint::Split;
 use std::marker::Model;
 
 /// How boxes are cut.

@@ -7,8 +7,8 @@ ghost use Rattle.box_tree.specs.Points.{asked_points};
 ghost use Rattle.box_tree.specs.Points as spec;
 
 use crate::range::SplitRange;
-use script_hints::hint::Cutting;
 use dyadic::{Dyadic, Points, part_down};
+use script_hints::hint::Cutting;
 
 /// The number i of the points that cut the range into n parts.
 fn part_at(range: SplitRange, i: u8, n: u8) -> Dyadic

@@ -13,9 +13,9 @@ use crate::next::Next;
 use crate::plan::Plan;
 use crate::points::{cut_piece, cut_points, half_piece, has_points};
 use crate::range::{SplitRange, put_range, range_in};
-use script_hints::hint::Split;
 use dyadic::{Dyadic, Points};
 use fx_model::ExprId;
+use script_hints::hint::Split;
 use std::marker::Model;
 
 /// The ranges of a box, how many unconditional cuts and how many halvings are behind it, and the

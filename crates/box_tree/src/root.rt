@@ -18,13 +18,13 @@ ghost use Rattle.box_tree.specs.Covers.{LieInBox};
 
 use crate::plan::Plan;
 use crate::range::SplitRange;
+use dyadic::{Dyadic, End};
+use facts::Fact;
+use fx_edge::Items;
+use fx_model::ExprId;
+use interval::Interval;
 use script_claims::{Claim, hypotheses_hold};
 use script_hints::hint::{Cutting, HintList, Split};
-use dyadic::{Dyadic, End};
-use fx_model::ExprId;
-use facts::Fact;
-use interval::Interval;
-use fx_edge::Items;
 use std::alloc::{AllocError, Global};
 
 /// The interval as a range, where its ends are finite.

@@ -75,6 +75,7 @@ impl Gathered {
         ensures added { IfOk result (λ all. IsTrue all → self.new ≡ with_outcome self.old outcome) }
         ensures all { IfOk result (λ all. IsTrue all → outcome ≢ Outcome.BoxLimit) }
         ensures over { IfOk result (λ all. all ≡ false → outcome ≡ Outcome.BoxLimit) }
+        ensures kept { IfOk result (λ all. all ≡ false → self.new ≡ self.old) }
     {
         match outcome {
             Outcome::Leaves { boxes, leaves } => {

@@ -1,7 +1,6 @@
 //! Several trees of boxes, one for each case, and their one answer.
 #![tactic(auto)]
 
-
 mod gathered;
 mod laws;
 mod outcome;

@@ -8,9 +8,9 @@ use crate::kept::number_from;
 use crate::source::Source;
 use dyadic::{Dyadic, End};
 use facts::{Fact, FixPlace, RelativeError, Size};
-use interval::Interval;
 use fx_edge::Folder;
 use fx_model::ExprId;
+use interval::Interval;
 
 impl Field for Dyadic {
     ghost read_at = { point_at };

@@ -2,7 +2,6 @@
 //! fail.
 #![tactic(auto, using(crate::proofs::Fronts::front_then, crate::proofs::Fronts::same_front))]
 
-
 mod based;
 mod claims;
 mod cut_points;

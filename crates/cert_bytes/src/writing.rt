@@ -13,8 +13,8 @@ use crate::item::{Item, StepRow};
 use crate::style::{Seen, Style};
 use dyadic::{Dyadic, End, Points};
 use facts::{Fact, HintMark};
-use interval::Interval;
 use fx_model::{Direction, ExprId, Literal, Node};
+use interval::Interval;
 use std::alloc::AllocError;
 
 /// The bytes that each certificate begins with, before its version: "FXPC".

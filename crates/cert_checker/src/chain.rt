@@ -15,13 +15,13 @@ use crate::lines::{Lines, add_leaf, no_lines};
 use crate::nodes::{judge_count, judge_mark, judge_marks, take_node};
 use crate::open::{OpenCut, OpenSteps};
 use crate::subject::Subject;
-use expr_dag::Dag;
 use cert_bytes::{Item, StepRow};
+use dyadic::Points;
+use expr_dag::Dag;
+use facts::{Fact, HintMark};
 use fx_edge::Items;
 use fx_model::{ExprId, Node};
-use facts::{Fact, HintMark};
 use goals::Line;
-use dyadic::Points;
 use std::alloc::{AllocError, Global};
 use std::marker::Model;
 

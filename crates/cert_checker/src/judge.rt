@@ -11,10 +11,10 @@ use crate::cuts::Cuts;
 use crate::fault::{CheckFault, TakeStop};
 use crate::open::OpenSteps;
 use crate::subject::Subject;
-use expr_dag::Dag;
 use cert_bytes::StepRow;
-use fx_model::{ExprId, Node};
+use expr_dag::Dag;
 use facts::Fact;
+use fx_model::{ExprId, Node};
 use goals::{Goal, settles};
 
 fn refuse(fault: CheckFault) -> Result<(), TakeStop>

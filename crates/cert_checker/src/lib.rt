@@ -23,6 +23,8 @@ pub use check::check_subject;
 pub use fault::{CheckFault, CheckStop, TakeStop};
 pub use given::Given;
 pub use keep::{Accepted, accepted_items};
-pub use laws::{accepted_lines_hold, bytes_are_accepted, each_case_has_its_root, items_are_judged_once};
+pub use laws::{
+    accepted_lines_hold, bytes_are_accepted, each_case_has_its_root, items_are_judged_once,
+};
 pub use lines::Lines;
 pub use subject::Subject;

@@ -4,8 +4,8 @@ ghost use Rattle.goals.specs.declared.line.Line.TheVariants as line;
 ghost use Rattle.cert_checker.specs.After.{lines_with, with_cited};
 
 use crate::open::OpenSteps;
-use fx_edge::Items;
 use facts::{Fact, HintMark};
+use fx_edge::Items;
 use goals::{Goal, Line};
 use std::alloc::{AllocError, Global};
 

@@ -3,8 +3,8 @@ ghost use Rattle.std.specs.Prelude.{◌≡◌};
 ghost use Rattle.cert_checker.specs.Steps.{case_facts};
 
 use expr_dag::Dag;
-use fx_edge::Items;
 use facts::{Fact, HintMark, HintRow};
+use fx_edge::Items;
 use goals::Goal;
 
 /// What a script asks of its certificates.

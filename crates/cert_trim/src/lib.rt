@@ -1,7 +1,6 @@
 //! Certificates without unused steps.
 #![tactic(auto)]
 
-
 mod behind;
 mod certificate;
 mod laws;

@@ -14,14 +14,14 @@ ghost use Rattle.cert_writer.specs.declared.walk.WriteStop.TheVariants as WriteS
 
 use crate::laws::writing_goes_on;
 use crate::walk::{WriteStop, write_box};
-use settler::Case;
-use script_grammar::Script;
-use universe::assume;
 use answer_certificates::script_has_room;
-use rule_universe::Universe;
 use cert_bytes::{Item, Seen, write_item2};
 use fx_edge::{Folder, Path};
+use rule_universe::Universe;
+use script_grammar::Script;
+use settler::Case;
 use std::alloc::Global;
+use universe::assume;
 use whole_texts::append_all;
 
 // Writes the root section of the case with this number, where this was seen before it. It answers

@@ -7,15 +7,15 @@ ghost use Rattle.answer_certificates.specs.Scripts.{HasSlots};
 ghost use Rattle.cert_writer.specs.Boxes.{IsSettled, CutsAt, IsEnd, IsClosed};
 
 use crate::spell::refs_of;
-use box_tree::Cut;
 use box_trace::Known;
-use rule_universe::Universe;
+use box_tree::Cut;
 use cert_bytes::Item;
-use fx_edge::Items;
 use dyadic::{Dyadic, Points};
+use facts::Slot;
+use fx_edge::Items;
 use fx_model::ExprId;
 use goals::{Goal, settles};
-use facts::Slot;
+use rule_universe::Universe;
 use std::alloc::{AllocError, Global};
 
 // Whether the goal is settled by what is known.

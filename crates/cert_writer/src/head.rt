@@ -9,8 +9,8 @@ ghost use Rattle.cert_writer.specs.Heads.{head_items};
 
 use cert_bytes::{Item, Seen, write_item2};
 use expr_dag::Dag;
-use fx_model::ExprId;
 use facts::HintMark;
+use fx_model::ExprId;
 use std::alloc::AllocError;
 
 // Appends an item that stands before the first step and before the end of the first section.

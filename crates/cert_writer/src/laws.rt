@@ -3,13 +3,13 @@
 ghost use Rattle.cert_writer.specs.Laws.{WritingGoesOn};
 ghost use Rattle.cert_writer.specs.Walks.{WalkGoesOn};
 
-use box_tree::Plan;
 use answer_certificates::pieces_are_of_cuts;
-use tree_certificates::{certificates_exist, walks_move};
-use saturate::rules_are_lawful;
-use cert_trim::leaves_are_trimmed;
+use box_tree::Plan;
 use cert_bytes::spellings_are_short;
+use cert_trim::leaves_are_trimmed;
 use derivation::{best_tables_exist, boxes_come_to_one_state};
+use saturate::rules_are_lawful;
+use tree_certificates::{certificates_exist, walks_move};
 
 /// Nothing is done. The clause tells a caller how a certificate goes on from box to box, that it is
 /// whole behind the last, and that before it is a front of an accepted one with all its lines.

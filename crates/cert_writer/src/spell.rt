@@ -12,10 +12,10 @@ ghost use Rattle.box_trace.specs.Tables.{known_at};
 ghost use Rattle.cert_writer.specs.Boxes.{refs_in, written_of};
 
 use box_trace::Known;
-use rule_universe::Universe;
 use cert_bytes::{Item, Seen, StepRow, write_item2};
 use cert_trim::trim_behind;
 use goals::Goal;
+use rule_universe::Universe;
 use std::alloc::{AllocError, Global};
 
 // A box's own items: its steps, and the last behind them. `Err` only where memory runs out.

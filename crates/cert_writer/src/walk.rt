@@ -11,12 +11,12 @@ ghost use Rattle.cert_writer.specs.declared.walk.WriteStop.TheVariants as WriteS
 use crate::ending::{cut_of, end_of};
 use crate::laws::{walk_goes_on, writing_goes_on};
 use crate::spell::{own_items, spell_box, written_items};
-use box_tree::{Cut, Plan};
 use box_trace::{Known, Traced, boxes_are_short, trace};
-use rule_universe::Universe;
+use box_tree::{Cut, Plan};
 use cert_bytes::{CutPoints, Item, Seen};
 use cert_trim::leaves_are_trimmed;
 use fx_edge::{Failed, Folder, Path};
+use rule_universe::Universe;
 use std::alloc::{AllocError, Global};
 use whole_texts::append_all;
 

@@ -10,12 +10,14 @@ use crate::cases::{write_cases, write_end};
 use crate::head::spell_head;
 use crate::laws::writing_goes_on;
 use crate::walk::WriteStop;
-use settler::Case;
-use script_grammar::Script;
-use answer_certificates::{script_has_room, scripts_have_roots, subjects_are_written, universes_are_small};
-use rule_universe::Universe;
-use fx_edge::Folder;
+use answer_certificates::{
+    script_has_room, scripts_have_roots, subjects_are_written, universes_are_small,
+};
 use facts::HintMark;
+use fx_edge::Folder;
+use rule_universe::Universe;
+use script_grammar::Script;
+use settler::Case;
 use std::alloc::Global;
 use whole_texts::append_all;
 

@@ -6,13 +6,13 @@ ghost use Rattle.report.specs.Proved as spec;
 ghost use Rattle.check_command.specs.Checked.{CheckPrints, IsAcceptable};
 
 use cert_bytes::Reader;
+use cert_checker::{CheckStop, Lines, bytes_are_accepted};
 use command_runs::Status;
 use fx_edge::Folder;
-use cert_checker::{CheckStop, Lines, bytes_are_accepted};
-use script_grammar::{Script, parse, script_or_refusal};
-use script_checker::check_script;
-use report::proved::answer_text;
 use report::certificates::{cert_fault_line, check_fault_line};
+use report::proved::answer_text;
+use script_checker::check_script;
+use script_grammar::{Script, parse, script_or_refusal};
 use script_texts::refused_line;
 use std::alloc::{AllocError, Global};
 use whole_texts::ReadStop;

@@ -1,7 +1,6 @@
 //! The command `check`: checks a certificate of a script, and prints the lines that it shows.
 #![tactic(auto)]
 
-
 mod check;
 mod command;
 mod laws;

@@ -1,7 +1,6 @@
 //! Numbers m * 2^e with exact comparison and outward rounding.
 #![tactic(auto)]
 
-
 mod cut;
 mod floor;
 mod middle;

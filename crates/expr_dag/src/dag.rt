@@ -10,8 +10,8 @@ ghost use Rattle.expr_dag.specs.Nodes.{IsLawful, IsAt, IsAbsent, IsFull, IsPlace
 ghost use Rattle.expr_dag.specs.Nodes.{place_of, with_node};
 
 use crate::key::Key;
-use indexmap::IndexSet;
 use fx_model::{ExprId, Node};
+use indexmap::IndexSet;
 use std::alloc::{AllocError, Global};
 use std::marker::Model;
 use thiserror::Error;

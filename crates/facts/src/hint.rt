@@ -1,5 +1,5 @@
-use fx_edge::Items;
 use dyadic::End;
+use fx_edge::Items;
 use fx_model::ExprId;
 
 /// A constraint of a hint on an expression. A bound is a number rounded so that what meets it meets

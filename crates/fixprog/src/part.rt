@@ -11,7 +11,9 @@ ghost use Rattle.fixprog.specs.Views.{way_of, head_of, begun_of, digits_seen};
 ghost use Rattle.fixprog.specs.Views as views;
 ghost use Rattle.fixprog.specs.Grammar as grammar;
 
-use crate::program::{Bound, Digits, Input, Joint, Mark, Operand, Operation, Shift, Statement, Step, Way};
+use crate::program::{
+    Bound, Digits, Input, Joint, Mark, Operand, Operation, Shift, Statement, Step, Way,
+};
 use crate::word::Word;
 use script_words::class::Symbol;
 

@@ -7,6 +7,7 @@ ghost use Rattle.fx_top.specs.Run.{IsRun};
 use crate::wanted::{Invocation, command_of};
 use at_command::run_at;
 use batch_command::run_batch;
+use check_command::run_check;
 use command_line::{WordsError, usage};
 use command_runs::{Status, print};
 use fix_command::run_fix;
@@ -16,7 +17,6 @@ use prove_command::run_prove;
 use std::alloc::Global;
 use std::sync::Wait;
 use std::thread::Threads;
-use check_command::run_check;
 use trim_command::run_trim;
 use upgrade_command::run_upgrade;
 

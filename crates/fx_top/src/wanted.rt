@@ -2,7 +2,11 @@
 ghost use Rattle.std.specs.Prelude.{◌≡◌, map, string_bytes, Some, None, IfOk, IfErr};
 ghost use Rattle.fx_top.specs.Commands.{IsSound, command_from, reading};
 
-use command_line::{AtRequest, BatchRequest, CheckRequest, FixRequest, Request, TrimRequest, UpgradeRequest, WordsError, read_at, read_batch, read_check, read_fix, read_gen, read_prove, read_trim, read_upgrade};
+use command_line::{
+    AtRequest, BatchRequest, CheckRequest, FixRequest, Request, TrimRequest, UpgradeRequest,
+    WordsError, read_at, read_batch, read_check, read_fix, read_gen, read_prove, read_trim,
+    read_upgrade,
+};
 use std::alloc::Global;
 
 /// What the words ask for.

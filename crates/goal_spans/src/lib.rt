@@ -1,7 +1,6 @@
 //! Which words of a script are the expression part of each goal.
 #![tactic(auto)]
 
-
 mod laws;
 mod reader;
 mod span;

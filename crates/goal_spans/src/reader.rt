@@ -9,8 +9,8 @@ ghost use Rattle.goal_spans.specs.Reading as spec;
 use crate::span::Span;
 use script_shape::due::Due;
 use script_words::class::Symbol;
-use script_words::words::Word;
 use script_words::list::WordList;
+use script_words::words::Word;
 use std::alloc::{AllocError, Global};
 use std::marker::Model;
 

@@ -1,7 +1,6 @@
 //! What a goal wants, which facts settle it, and the line that is printed of it.
 #![tactic(auto)]
 
-
 mod goal;
 mod laws;
 mod line;

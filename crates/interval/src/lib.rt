@@ -1,7 +1,6 @@
 //! Outward intervals: the least interval with grid ends that holds every result.
 #![tactic(auto)]
 
-
 mod beside;
 mod ends;
 mod interval;

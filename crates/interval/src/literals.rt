@@ -13,8 +13,8 @@ ghost use Rattle.interval.specs.Literals.{Alone};
 ghost use Rattle.interval.specs.Results.{point_of};
 
 use crate::interval::Interval;
-use fx_model::Literal;
 use dyadic::{ratio_down, ratio_up};
+use fx_model::Literal;
 
 /// The least interval that holds the literal's value, or its negative.
 #[inline(always)]

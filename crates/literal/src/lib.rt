@@ -1,7 +1,6 @@
 //! Literals of scripts: their spellings, normal forms, and the powers of two that divide them.
 #![tactic(auto)]
 
-
 mod multiple;
 mod normal;
 mod number;

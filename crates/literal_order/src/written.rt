@@ -6,8 +6,8 @@ ghost use Rattle.interval.specs.Results.{point_of};
 ghost use Rattle.literal_order.specs.Values.{written_value, IsWritten};
 
 use crate::order::is_below;
-use interval::{Interval, enclose};
 use fx_model::Literal;
+use interval::{Interval, enclose};
 
 /// A number as it is written: a literal, or its negative.
 #[derive(Clone, Copy, Debug, PartialEq, Eq)]

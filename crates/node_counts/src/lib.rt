@@ -5,10 +5,10 @@ ghost use Rattle.node_counts.specs.Counted.{NodesAreCounted};
 ghost use Rattle.node_counts.specs.Few.{HintsAreFew, GoalsAreFew};
 ghost use Rattle.node_counts.specs.Ranges.{SplitsHaveRanges};
 
+use script_bounds::outward_is_least;
 use script_claims::formulas_are_read;
 use script_hints::laws::reads_hints;
 use script_nodes::laws::{literals_are_told, reads_trees};
-use script_bounds::outward_is_least;
 use script_shape::shape::{leaves_are_of_trees, roles_are_unique};
 
 /// Nothing is done. The clause tells a caller that a script of a text whose words pass the judge

@@ -1,5 +1,8 @@
 // Each public call once, at values that were worked out by hand.
-use dyadic::{Dyadic, End, Points, add_down, add_up, div_down, div_up, greater, halve_between, lesser, mul_down, mul_up, part_down, ratio_down, ratio_up};
+use dyadic::{
+    Dyadic, End, Points, add_down, add_up, div_down, div_up, greater, halve_between, lesser,
+    mul_down, mul_up, part_down, ratio_down, ratio_up,
+};
 
 const TOP: i64 = 1152921504606846975;
 

@@ -1,6 +1,10 @@
 // Each public call, at values that were worked out by hand.
 use dyadic::{Dyadic, End};
-use facts::{Fact, FixPlace, RelativeError, Size, Slot, held_facts, meet, meet_is_the_weakest_as_strong_as_both, sizes_within_an_interval, slot, stronger, stronger_is_an_order, void_and_none_are_strongest};
+use facts::{
+    Fact, FixPlace, RelativeError, Size, Slot, held_facts, meet,
+    meet_is_the_weakest_as_strong_as_both, sizes_within_an_interval, slot, stronger,
+    stronger_is_an_order, void_and_none_are_strongest,
+};
 use fx_model::ExprId;
 use interval::Interval;
 use std::process::Abort;

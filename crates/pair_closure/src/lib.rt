@@ -1,7 +1,6 @@
 //! Which pairs of expressions are compared, and which expressions that takes.
 #![tactic(auto)]
 
-
 mod closure;
 mod differences;
 mod follow;

@@ -1,7 +1,6 @@
 //! Exact evaluation of a script at one point: what its claims and its hints are there.
 #![tactic(auto)]
 
-
 mod evaluation;
 mod laws;
 mod point;

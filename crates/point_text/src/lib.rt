@@ -1,7 +1,6 @@
 //! The reading of points: a number for each variable of a script, as a text writes them.
 #![tactic(auto)]
 
-
 mod fault;
 mod laws;
 mod reading;

@@ -206,7 +206,7 @@ fn compare(alloc: Global, f: &Quotient, g: &Quotient) -> Result<Sameness, AllocE
     Ok(compare_sides(&left, &right))
 }
 
-/// Whether the quotients in the table at a and b are equal. Where one isn't there, a limit is passed.
+/// Whether the quotients in the table at a and b are equal. If one isn't there, a limit is passed.
 pub fn compare_at(
     alloc: Global,
     forms: &[Option<Quotient>],

@@ -1,7 +1,6 @@
 //! Normal forms of expressions: whether two of them are equal as rational functions.
 #![tactic(auto)]
 
-
 mod answer;
 mod arithmetic;
 mod forms;

@@ -16,17 +16,17 @@ ghost use Rattle.prove_command.specs.Certified.{IsSpared, name_of};
 
 use cert_writer::{WriteStop, write_cert};
 use command_runs::Status;
-use fx_edge::{Folder, Gate};
-use settler::{Case, planned_cases};
-use script_answers::{Found, Options, prove_over, proved_lines, unbuilt_line};
 use facts::HintMark;
-use script_grammar::{ParseStop, Script, parse};
+use fx_edge::{Folder, Gate};
 use rule_universe::Universe;
-use universe::{UniverseFault, build, classify};
+use script_answers::{Found, Options, prove_over, proved_lines, unbuilt_line};
+use script_grammar::{ParseStop, Script, parse};
 use script_texts::refused_line;
+use settler::{Case, planned_cases};
 use std::alloc::{AllocError, Global};
 use std::sync::Wait;
 use std::thread::Threads;
+use universe::{UniverseFault, build, classify};
 
 /// What came of a text: the status and all lines, and whether the writing of its certificate came
 /// to its end.

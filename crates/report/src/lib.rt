@@ -1,7 +1,6 @@
 //! The printed lines, exactly, as bytes.
 #![tactic(auto)]
 
-
 pub mod certificates;
 mod joined;
 pub mod parts;

@@ -7,9 +7,9 @@ ghost use Rattle.report.specs.Proved as spec;
 use crate::joined::put_joined;
 use crate::parts::part;
 use facts::HintMark;
-use interval::Interval;
-use goals::Line;
 use goal_spans::Span;
+use goals::Line;
+use interval::Interval;
 use script_words::lex::Token;
 use std::alloc::{AllocError, Global};
 

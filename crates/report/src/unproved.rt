@@ -5,8 +5,8 @@ ghost use Rattle.report.specs.Unproved as spec;
 
 use crate::proved::put_interval;
 use box_tree::Plan;
-use fx_model::{Node, ExprId};
 use fx_edge::Path;
+use fx_model::{ExprId, Node};
 use script_grammar::Script;
 use std::alloc::{AllocError, Global};
 

@@ -51,11 +51,12 @@ sides_more hints n h sides first second at a e f = subst (AreSidesOf hints (n + 
       | inl b ↦ (let w = a.both k g b there in (old g.left w.0, old g.right w.1))
       | inr b ↦ (let s : k ≡ n = omega arith in
           let same : h ≡ g = some_hint h g (sym at ∙ ap (slice_get hints) (sym s) ∙ there) in
-          subst (λ (u : Hint). IsSide (with_sides sides h) u.left × IsSide (with_sides sides h) u.right) same (left, right))
+          subst (λ (u : Hint). IsSide (with_sides sides h) u.left
+          × IsSide (with_sides sides h) u.right) same (left, right))
     ]
 
-    only : (x : ExprId) → IsSide (with_sides sides h) x → (k : ℕ) × (g : Hint) × (slice_get hints k ≡ Some g)
-        × ((x ≡ g.left) ⊎ (x ≡ g.right))
+    only : (x : ExprId) → IsSide (with_sides sides h) x → (k : ℕ) × (g : Hint)
+        × (slice_get hints k ≡ Some g) × ((x ≡ g.left) ⊎ (x ≡ g.right))
     only x w = elim (narrower (sides ++ h.left ∷ []) h.right x w) [
       | inl u ↦ elim (narrower sides h.left x u) [
         | inl v ↦ a.only x v

@@ -6,10 +6,10 @@ ghost use Rattle.rewrite_hints.specs.Rows.{IsRowOf};
 ghost use Rattle.rewrite_hints.specs.Marks.{AreRows, AreKnownSides};
 
 use crate::divisors::divisors_of;
-use fx_edge::Items;
 use expr_dag::Dag;
-use script_hints::hint::{Constraint, Hint};
 use facts::{HintRow, Need};
+use fx_edge::Items;
+use script_hints::hint::{Constraint, Hint};
 use std::alloc::{AllocError, Global};
 
 // The constraints with their bounds rounded to the grid, so that what meets them meets the written

@@ -5,10 +5,10 @@ ghost use Rattle.facts.specs.Conclusions.{only_if};
 ghost use Rattle.rewrite_rules.specs.Rewriting.{is_under, shows, show_needs, show_row, rewritten};
 ghost use Rattle.rewrite_rules.specs.Rewriting.{rewriting_rule};
 
-use expr_dag::Dag;
-use fx_model::ExprId;
 use dyadic::End;
+use expr_dag::Dag;
 use facts::{Fact, HintRow, Need, Slot};
+use fx_model::ExprId;
 
 /// For a hint `a -> b`, from a BND, ABS, FIX or NZR fact on b, NZR of each divisor of the row, and
 /// a fact for each of its constraints: the same fact on a. Nothing from more than 65535 premises.

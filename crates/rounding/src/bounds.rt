@@ -13,8 +13,8 @@ ghost use Rattle.rounding.specs.Spans.{spanned};
 use crate::number::{number, power};
 use crate::round::places_below;
 use crate::sign::Sign;
-use fx_model::{Direction, Rounding};
 use dyadic::{Dyadic, End};
+use fx_model::{Direction, Rounding};
 use interval::Interval;
 
 // To which side errors go, and how far: the unit or half of it.

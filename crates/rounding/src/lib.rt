@@ -1,7 +1,6 @@
 //! Roundings of grid numbers to the multiples of a power of two, and how far they move a number.
 #![tactic(auto)]
 
-
 mod bounds;
 mod laws;
 mod neighbours;

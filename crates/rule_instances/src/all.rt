@@ -15,9 +15,9 @@ use crate::hints::add_hint;
 use crate::nodes::{add_any, add_operation};
 use crate::rows::Rows;
 use crate::sides::{add_at_pair, add_past_pair};
+use expr_dag::Dag;
 use facts::{HintRow, Instance};
 use fx_model::{ExprId, Node};
-use expr_dag::Dag;
 use pair_closure::PairIndex;
 use std::alloc::{AllocError, Global};
 

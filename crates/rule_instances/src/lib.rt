@@ -2,7 +2,6 @@
 //! pairs.
 #![tactic(auto)]
 
-
 mod all;
 mod differences;
 mod hints;

@@ -1,11 +1,14 @@
 // Each rule, at values that were worked out by hand.
 use dyadic::{Dyadic, End};
 use expr_dag::Dag;
-use fx_model::{ExprId, Node};
 use facts::{Fact, FixPlace, HintRow, Need, RelativeError, Size, Slot};
 use fx_edge::Items;
+use fx_model::{ExprId, Node};
 use interval::Interval;
-use rewrite_rules::{rule_71, rule_72, rule_73, rule_74, rule_75, rule_76, rule_77, rule_78, rule_80, rule_91, rule_92};
+use rewrite_rules::{
+    rule_71, rule_72, rule_73, rule_74, rule_75, rule_76, rule_77, rule_78, rule_80, rule_91,
+    rule_92,
+};
 use std::process::Abort;
 use std::test::Fail;
 

@@ -3,8 +3,8 @@
 use crate::of_theorem_fix::{B, F, INF, Nil, No, One, Two, V, bnd, fix, try_rows};
 use dyadic::{Dyadic, End};
 use expr_dag::Dag;
-use fx_model::{Direction, ExprId, Node, Rounding};
 use facts::{Fact, Slot};
+use fx_model::{Direction, ExprId, Node, Rounding};
 use interval::Interval;
 use literal::read;
 use std::process::Abort;

@@ -1,13 +1,16 @@
 // Each rule, at values that were worked out by hand.
 use dyadic::{Dyadic, End};
 use expr_dag::Dag;
-use fx_model::{ExprId, Node};
 use facts::{Fact, Size, Slot};
+use fx_model::{ExprId, Node};
 use interval::Interval;
 use literal::read;
 use std::process::Abort;
 use std::test::Fail;
-use theorem_arith::{rule_1, rule_2, rule_3, rule_4, rule_5, rule_6, rule_7, rule_8, rule_9, rule_10, rule_11, rule_12, rule_13, rule_14, rule_15, rule_16, rule_17, rule_18, rule_19};
+use theorem_arith::{
+    rule_1, rule_2, rule_3, rule_4, rule_5, rule_6, rule_7, rule_8, rule_9, rule_10, rule_11,
+    rule_12, rule_13, rule_14, rule_15, rule_16, rule_17, rule_18, rule_19,
+};
 
 // The expressions of the list, in its order: x, y, 0.1, -x, x + y, x - y, x * y, x / y, |x|, x - x,
 // x * x, x / x. There is no 12.

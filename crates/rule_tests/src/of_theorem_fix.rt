@@ -1,12 +1,15 @@
 // The rules on multiples and on values other than 0, at values that were worked out by hand.
 use dyadic::{Dyadic, End};
 use expr_dag::Dag;
-use fx_model::{Direction, ExprId, Node, Rounding};
 use facts::{Fact, FixPlace, RelativeError, Size, Slot};
+use fx_model::{Direction, ExprId, Node, Rounding};
 use interval::Interval;
 use std::process::Abort;
 use std::test::Fail;
-use theorem_fix::{rule_21, rule_22, rule_23, rule_24, rule_25, rule_26, rule_27, rule_28, rule_31, rule_32, rule_33, rule_34, rule_35, rule_36, rule_41, rule_42, rule_43, rule_44, rule_90};
+use theorem_fix::{
+    rule_21, rule_22, rule_23, rule_24, rule_25, rule_26, rule_27, rule_28, rule_31, rule_32,
+    rule_33, rule_34, rule_35, rule_36, rule_41, rule_42, rule_43, rule_44, rule_90,
+};
 
 // The expressions of the list, in its order: x, y, -x, x + y, x - y, x * y, x / y, and x rounded to
 // multiples of 2^-4. There is no 8.

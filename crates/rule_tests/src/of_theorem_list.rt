@@ -1,13 +1,15 @@
 // The numbers that aren't in the list, and one that is.
 use dyadic::{Dyadic, End};
 use expr_dag::Dag;
-use fx_model::{ExprId, Node};
 use facts::{Fact, HintRow, Slot};
 use fx_edge::Items;
+use fx_model::{ExprId, Node};
 use interval::Interval;
 use std::process::Abort;
 use std::test::Fail;
-use theorem_list::{conclude, conclusions_are_isotone, conclusions_are_sound, conclusions_stay_on_target};
+use theorem_list::{
+    conclude, conclusions_are_isotone, conclusions_are_sound, conclusions_stay_on_target,
+};
 
 // A whole number alone.
 fn point(rt: &impl Abort, whole: i64) -> Interval {

@@ -1,12 +1,15 @@
 // Each rule, at values that were worked out by hand.
 use dyadic::{Dyadic, End};
 use expr_dag::Dag;
-use fx_model::{ExprId, Node};
 use facts::{Fact, RelativeError, Slot};
+use fx_model::{ExprId, Node};
 use interval::Interval;
 use std::process::Abort;
 use std::test::Fail;
-use theorem_rel::{rule_51, rule_52, rule_53, rule_54, rule_55, rule_56, rule_57, rule_58, rule_59, rule_60, rule_61};
+use theorem_rel::{
+    rule_51, rule_52, rule_53, rule_54, rule_55, rule_56, rule_57, rule_58, rule_59, rule_60,
+    rule_61,
+};
 
 // The expressions of the list, in its order: a, b, c, d, a - c, a / c, a * b, c * d, a / b, c / d,
 // -a, -c, a + b, c + d, c / (c + d). There is no 15.

@@ -2,7 +2,6 @@
 //! with an index from each slot to the instances that take it.
 #![tactic(auto)]
 
-
 mod flat_rows;
 mod order;
 mod placed;

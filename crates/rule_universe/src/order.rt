@@ -6,7 +6,7 @@ ghost use Rattle.rule_universe.specs.Ordered.{AreNumbersOf};
 
 use expr_dag::Dag;
 use facts::{Instance, Slot};
-use fx_model::{Node, ExprId};
+use fx_model::{ExprId, Node};
 use std::alloc::{AllocError, Global};
 
 // How many levels there are, VOID's included.

@@ -7,17 +7,17 @@ ghost use Rattle.script_answers.specs.Answers.{AreAllowed, IsFound, ProvePrints,
 
 use crate::found::{Found, prove_script, prove_script_alone};
 use crate::options::Options;
-use fx_edge::Gate;
-use facts::HintMark;
-use goals::Line;
-use script_grammar::{ParseStop, Script, parse};
 use command_runs::Status;
+use facts::HintMark;
+use fx_edge::Gate;
+use goals::Line;
 use report::proved::answer_text;
+use script_grammar::{ParseStop, Script, parse};
 use script_texts::refused_line;
-use universe::classify;
 use std::alloc::{AllocError, Global};
 use std::sync::Wait;
 use std::thread::Threads;
+use universe::classify;
 
 /// The lines of a script that is proved, where this is shown of its goals and its hints have these
 /// marks. `Err` only where memory runs out.

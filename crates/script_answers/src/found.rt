@@ -10,20 +10,22 @@ ghost use Rattle.report.specs.Unproved as spec;
 ghost use Rattle.script_answers.specs.Answers.{AreAllowed, IsFound, ProvePrints, options_from};
 
 use crate::options::Options;
+use bisect::lines_of;
+use case_trees::{CaseOutcome, OpenLeaf};
+use command_runs::Status;
 use fx_edge::{Gate, Items};
 use goals::Line;
-use script_grammar::{Script, script_or_refusal};
-use command_runs::Status;
 use report::runs::{boxes_text, expressions_text};
 use report::unproved::unproved_text;
-use settler::{Case, answer, answer_alone, open_leaves_are_first, planned_cases, proved_lines_are_tight};
-use case_trees::{CaseOutcome, OpenLeaf};
 use rule_universe::Universe;
-use universe::{UniverseFault, build};
-use bisect::lines_of;
+use script_grammar::{Script, script_or_refusal};
+use settler::{
+    Case, answer, answer_alone, open_leaves_are_first, planned_cases, proved_lines_are_tight,
+};
 use std::alloc::{AllocError, Global};
 use std::sync::Wait;
 use std::thread::Threads;
+use universe::{UniverseFault, build};
 
 /// What is found of a script.
 #[derive(Drop)]

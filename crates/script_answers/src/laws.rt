@@ -1,8 +1,8 @@
 // One answer is defined for a text.
 ghost use Rattle.script_answers.specs.Laws.{MadeAnswersAreOne, TextAnswersAreOne};
 
-use script_judge::firsts_are_unique;
 use script_grammar::script_or_refusal;
+use script_judge::firsts_are_unique;
 use settler::answers_are_one;
 
 /// The law that a text has one status and one text of lines, under given options. Nothing is done.

@@ -1,7 +1,6 @@
 //! What is answered to a script's text under options: a status and lines.
 #![tactic(auto)]
 
-
 mod answers;
 mod found;
 mod laws;

@@ -7,12 +7,12 @@ ghost use Rattle.script_answers.specs.Answers.{IsFound, MadePrints, first_line, 
 
 use crate::found::{Found, prove_script};
 use crate::options::made_options;
-use fx_edge::Gate;
-use made_script::made_script;
-use goals::Line;
-use script_grammar::{ParseStop, Script, parse};
 use command_runs::Status;
+use fx_edge::Gate;
+use goals::Line;
+use made_script::made_script;
 use report::proved::made_text;
+use script_grammar::{ParseStop, Script, parse};
 use script_texts::refused_line;
 use std::alloc::{AllocError, Global};
 use std::sync::Wait;

@@ -2,7 +2,6 @@
 //! grid that stand for bounds of propositions.
 #![tactic(auto)]
 
-
 mod bound;
 mod laws;
 mod need;

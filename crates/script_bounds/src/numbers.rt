@@ -9,10 +9,10 @@ ghost use Rattle.literal_order.specs.Values.{written_value, IsWritten};
 ghost use Rattle.script_bounds.specs.Texts.{IsNumber};
 ghost use Rattle.script_bounds.specs.Tests as spec;
 
-use facts::RelativeError;
 use dyadic::{Dyadic, End};
-use literal_order::Written;
+use facts::RelativeError;
 use literal::read_bytes;
+use literal_order::Written;
 
 /// The number that the text of a literal stands for, or the negative of it. `None` exactly where
 /// the text is no literal within its limits.

@@ -3,10 +3,10 @@ ghost use Rattle.std.specs.Prelude.{◌≡◌, ◌<◌, Some, length, map, slice
 ghost use Rattle.script_claims.specs.Facts as spec;
 ghost use Rattle.script_grammar.specs.Cases.{cases_of};
 
-use fx_edge::Items;
 use facts::Fact;
-use script_grammar::Script;
+use fx_edge::Items;
 use script_claims::facts_of;
+use script_grammar::Script;
 use std::alloc::{AllocError, Global};
 
 // What the hypotheses of the case with this number, from 0, say.

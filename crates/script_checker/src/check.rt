@@ -12,12 +12,12 @@ ghost use Rattle.cert_checker.specs.Checking.{IsFresh};
 ghost use Rattle.script_checker.specs.Checking.{AnswersFor};
 
 use crate::subject::subject_of;
-use cert_checker::{CheckStop, Lines, check_subject};
 use cert_bytes::Reader;
+use cert_checker::{CheckStop, Lines, check_subject};
 use fx_edge::Folder;
 use rewrite_hints::rows_are_true;
-use script_grammar::Script;
 use script_claims::{goals_are_enough, hypotheses_hold};
+use script_grammar::Script;
 use script_meets::met_scripts;
 use std::alloc::Global;
 

@@ -10,8 +10,8 @@ ghost use Rattle.cert_checker.specs.Checking.{IsFresh};
 ghost use Rattle.script_checker.specs.Checking.{AreAcceptedItemsFor, AnswersItemsFor};
 
 use crate::subject::subject_of;
-use cert_checker::{Accepted, CheckStop, accepted_items};
 use cert_bytes::Reader;
+use cert_checker::{Accepted, CheckStop, accepted_items};
 use fx_edge::Folder;
 use script_grammar::Script;
 use std::alloc::Global;

@@ -2,7 +2,6 @@
 //! of it.
 #![tactic(auto)]
 
-
 mod cases;
 mod check;
 mod items;

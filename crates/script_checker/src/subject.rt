@@ -6,8 +6,8 @@ use crate::cases::facts_of_cases;
 use cert_checker::Subject;
 use fx_edge::Items;
 use rewrite_hints::{marks_of, rows_of};
-use script_grammar::Script;
 use script_claims::goals_of;
+use script_grammar::Script;
 use std::alloc::{AllocError, Global};
 
 /// The subject of a script: its nodes, what its hypotheses say case by case, what its goals want,

@@ -3,10 +3,10 @@ ghost use Rattle.script_claims.specs.Claims.{denial};
 ghost use Rattle.script_claims.specs.Facts.{HasNormalBounds, hypothesis_fact, want_of, slot_of};
 ghost use Rattle.script_claims.specs.Facts.{relative_fact};
 
-use fx_model::ExprId;
 use facts::{Fact, FixPlace, RelativeError, Slot};
-use interval::Interval;
+use fx_model::ExprId;
 use goals::Want;
+use interval::Interval;
 use literal_order::Written;
 use script_bounds::{inward, outward};
 

@@ -1,7 +1,6 @@
 //! What the propositions of a formula claim, with their bounds as they are written.
 #![tactic(auto)]
 
-
 mod claim;
 mod claims;
 mod laws;
@@ -13,6 +12,8 @@ mod sides;
 
 pub use claim::Claim;
 pub use claims::{facts_of, goals_of};
-pub use laws::{claims_only_grow, formulas_are_read, goals_are_enough, hypotheses_hold, parts_have_hypotheses};
+pub use laws::{
+    claims_only_grow, formulas_are_read, goals_are_enough, hypotheses_hold, parts_have_hypotheses,
+};
 pub use reader::ClaimReader;
 pub use sides::Sides;

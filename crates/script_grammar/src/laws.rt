@@ -8,14 +8,14 @@ ghost use Rattle.script_grammar.specs.Spells.{SpellsOnce, NeverBoth, SpellsAll, 
 ghost use Rattle.script_grammar.specs.Spells.{GoalsHaveSpans, SpelledAreShort};
 ghost use Rattle.script_grammar.specs.Read.{SpelledAreRead};
 
+use goal_spans::spans_are_read;
+use node_counts::{goals_are_counted, hints_are_counted, nodes_are_counted, splits_have_ranges};
+use script_claims::{formulas_are_read, parts_have_hypotheses};
+use script_hints::laws::reads_hints;
+use script_judge::{firsts_are_unique, reads_scripts};
+use script_nodes::laws::{literals_are_told, reads_definitions};
 use script_shape::shape::{leaves_are_of_trees, shapes_exist};
 use script_words::lex::{lexed_all, lexed_once, tokens_are_few};
-use goal_spans::spans_are_read;
-use script_judge::{firsts_are_unique, reads_scripts};
-use script_claims::{formulas_are_read, parts_have_hypotheses};
-use node_counts::{goals_are_counted, hints_are_counted, nodes_are_counted, splits_have_ranges};
-use script_nodes::laws::{literals_are_told, reads_definitions};
-use script_hints::laws::reads_hints;
 
 /// Nothing is done. The clause tells a caller that the words of a script, read from the left, are
 /// read as its tree.

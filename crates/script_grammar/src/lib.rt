@@ -9,6 +9,10 @@ mod reading;
 mod script;
 mod stage;
 
-pub use laws::{script_or_refusal, scripts_are_read, spelled_are_read, spelled_are_short, spelled_have_few_cases, spelled_have_few_constraints, spelled_have_few_goals, spelled_have_few_hints, spelled_have_ranges, spelled_name_nodes};
+pub use laws::{
+    script_or_refusal, scripts_are_read, spelled_are_read, spelled_are_short,
+    spelled_have_few_cases, spelled_have_few_constraints, spelled_have_few_goals,
+    spelled_have_few_hints, spelled_have_ranges, spelled_name_nodes,
+};
 pub use reading::{ParseStop, parse};
 pub use script::Script;

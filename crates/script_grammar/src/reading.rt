@@ -8,11 +8,11 @@ ghost use Rattle.script_grammar.specs.Spells.{View, Spells, IsRefused};
 use crate::laws::{script_or_refusal, scripts_are_read, spelled_are_short};
 use crate::script::Script;
 use crate::stage::{Stage, read_leaves};
+use expr_dag::DagFault;
 use goal_spans::{goal_spans, spans_are_read};
+use script_judge::{Judgement, ReadText, Refusal, judge_text};
 use script_shape::shape::leaves_are_of_trees;
 use script_words::lex::lexed_once;
-use expr_dag::DagFault;
-use script_judge::{Judgement, ReadText, Refusal, judge_text};
 use std::alloc::Global;
 
 /// Why a text gives no script.

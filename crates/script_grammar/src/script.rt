@@ -11,13 +11,16 @@ ghost use Rattle.node_counts.specs.Ranges.{HaveRanges};
 ghost use Rattle.script_grammar.specs.Ranges.{HasFewCases};
 ghost use Rattle.script_grammar.specs.Names.{NamesNodes};
 
-use crate::laws::{spelled_have_few_cases, spelled_have_few_goals, spelled_have_few_hints, spelled_have_ranges, spelled_name_nodes};
-use goal_spans::Span;
-use script_words::lex::Token;
-use script_claims::{Claim, Sides};
+use crate::laws::{
+    spelled_have_few_cases, spelled_have_few_goals, spelled_have_few_hints, spelled_have_ranges,
+    spelled_name_nodes,
+};
 use expr_dag::Dag;
+use goal_spans::Span;
+use script_claims::{Claim, Sides};
 use script_hints::hint::HintList;
 use script_nodes::reader::NodeReader;
+use script_words::lex::Token;
 use std::alloc::{AllocError, Global};
 use std::marker::Model;
 

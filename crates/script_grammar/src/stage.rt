@@ -7,16 +7,16 @@ ghost use Rattle.script_nodes.specs.Defining.{opens_formula};
 ghost use Rattle.script_grammar.specs.Steps as spec;
 ghost use Rattle.script_grammar.specs.Views.{step_of};
 
+use expr_dag::DagFault;
+use script_claims::{ClaimReader, Sides, claims_only_grow};
+use script_hints::laws::hints_only_grow;
+use script_hints::reader::HintReader;
+use script_nodes::definitions::Definitions;
+use script_nodes::laws::nodes_only_grow;
 use script_shape::due::Due;
 use script_words::class::Symbol;
-use script_words::words::Word;
 use script_words::list::WordList;
-use script_claims::{ClaimReader, Sides, claims_only_grow};
-use expr_dag::DagFault;
-use script_nodes::definitions::Definitions;
-use script_hints::reader::HintReader;
-use script_hints::laws::hints_only_grow;
-use script_nodes::laws::nodes_only_grow;
+use script_words::words::Word;
 use std::alloc::Global;
 
 /// The stage of a script's reading: in its definitions, in its formula, or in its hints.

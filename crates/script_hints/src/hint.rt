@@ -3,12 +3,12 @@
 ghost use Rattle.std.specs.Prelude.{◌≡◌};
 ghost use Rattle.script_hints.specs.Needs.{HasNormalBound, need_of};
 
-use fx_edge::Items;
+use dyadic::Dyadic;
 use facts::Need;
+use fx_edge::Items;
+use fx_model::ExprId;
 use literal_order::Written;
 use script_bounds::{above, below};
-use dyadic::Dyadic;
-use fx_model::ExprId;
 
 /// A constraint of a rewriting, with its bound as it is written.
 #[derive(Clone, Copy, PartialEq, Eq, Debug)]

@@ -1,7 +1,6 @@
 //! What a script's hints say, read from the left.
 #![tactic(auto)]
 
-
 mod draft;
 pub mod hint;
 pub mod laws;

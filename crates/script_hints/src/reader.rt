@@ -10,12 +10,12 @@ ghost use Rattle.script_hints.specs.Reading as spec;
 
 use crate::draft::HintDraft;
 use crate::hint::HintList;
+use expr_dag::DagFault;
+use fx_model::ExprId;
 use literal_order::Written;
 use script_nodes::digits::{literal_of, number_of};
 use script_nodes::reader::NodeReader;
-use expr_dag::DagFault;
 use script_shape::due::Due;
-use fx_model::ExprId;
 use script_words::class::Symbol;
 use script_words::words::Word;
 use std::alloc::Global;

@@ -14,8 +14,8 @@ use literal_order::Written;
 use script_bounds::{is_too_low, read_number};
 use script_shape::due::Due;
 use script_words::class::Symbol;
-use script_words::words::Word;
 use script_words::list::WordList;
+use script_words::words::Word;
 
 fn word_number(negative: bool, word: Word<'_>) -> Option<Written>
     ensures normal { IsWritten result }

@@ -11,8 +11,8 @@ use crate::refusal::RefusalKind;
 use script_shape::due::Due;
 use script_shape::shape::may_follow;
 use script_words::class::{Class, Spelled, Symbol};
-use script_words::words::Word;
 use script_words::list::WordList;
+use script_words::words::Word;
 use std::alloc::{AllocError, Global};
 
 /// A refused word: its number, and why.

@@ -13,8 +13,8 @@ ghost use Rattle.script_judge.specs.Views.{reading_of};
 use crate::judge::judge;
 use crate::reading::{ReadText, at_word, fault, read_as_script, text_refusal};
 use crate::refusal::{Refusal, RefusalKind};
-use script_words::lex::lexed_once;
 use script_shape::shape::{roles_are_unique, shape_is_unique};
+use script_words::lex::lexed_once;
 use std::alloc::{AllocError, Global};
 
 /// The number of a kind in the table of refusals.

@@ -28,8 +28,8 @@ use crate::refusal::RefusalKind;
 use crate::sides::{arrow_count, is_arrow, is_on_wrong_side, without};
 use crate::splits::{Ends, Splits, TokenReading, ends_between, is_rangeless};
 use script_shape::due::Due;
-use script_words::words::Word;
 use script_words::list::WordList;
+use script_words::words::Word;
 use std::alloc::{AllocError, Global};
 
 /// What stood before a token.

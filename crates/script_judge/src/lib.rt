@@ -1,7 +1,6 @@
 //! Why a text is no script: the first refusal.
 #![tactic(auto)]
 
-
 mod bounds;
 mod counts;
 mod fault;

@@ -11,8 +11,8 @@ ghost use Rattle.script_judge.specs.Views.{AreNames};
 
 use crate::sets::{add_some, halve, has, has_some, lacks_some};
 use script_shape::due::Due;
-use script_words::words::Word;
 use script_words::list::WordList;
+use script_words::words::Word;
 use std::alloc::{AllocError, Global};
 use std::collections::BTreeSet;
 

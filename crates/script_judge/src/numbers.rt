@@ -15,9 +15,9 @@ use crate::bounds::bound_number;
 use literal::{LiteralFault, read_bytes};
 use literal_order::Written;
 use script_shape::due::Due;
-use script_words::words::Word;
-use script_words::list::WordList;
 use script_words::digits::number_below;
+use script_words::list::WordList;
+use script_words::words::Word;
 
 /// Whether digits write a number above a limit.
 fn is_above(limit: u32, text: &[u8]) -> bool

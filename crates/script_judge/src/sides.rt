@@ -7,16 +7,17 @@ ghost use Rattle.script_words.specs.Kept.{words_in};
 ghost use Rattle.script_shape.specs.Roles.{leaves_of};
 ghost use Rattle.script_judge.specs.Counts.{one_if};
 ghost use Rattle.script_judge.specs.Judge as spec;
+ghost use Rattle.script_judge.specs.Sides as side;
 ghost use Rattle.script_judge.specs.Sides.{is_bound_sign};
 
 use script_shape::due::Due;
 use script_words::class::Symbol;
-use script_words::words::Word;
 use script_words::list::WordList;
+use script_words::words::Word;
 
 /// Whether it is a `->` of the formula.
 pub fn is_arrow(role: Due, word: Word<'_>) -> bool
-    ensures { result ≡ spec.is_arrow role (word_of word.entry) }
+    ensures { result ≡ side.is_arrow role (word_of word.entry) }
 {
     matches!((role, word), (Due::Connective, Word::Sign(Symbol::Arrow)))
 }
@@ -60,7 +61,7 @@ fn is_ask(word: Word<'_>) -> bool
 
 /// Whether it is the sign of a `\/`.
 pub fn is_or(word: Word<'_>) -> bool
-    ensures { result ≡ spec.is_or (word_of word.entry) }
+    ensures { result ≡ side.is_or (word_of word.entry) }
 {
     matches!(word, Word::Sign(Symbol::Or))
 }
@@ -73,7 +74,7 @@ fn is_bound_sign(word: Word<'_>) -> bool
 
 /// Whether the proposition that begins with these words is `e <= n` or `e >= n`.
 fn begins_bound(words: WordList<'_, '_>, roles: &[Due]) -> bool
-    ensures { result ≡ spec.begins_bound (leaves_of roles.now (words_in words.entry)) }
+    ensures { result ≡ side.begins_bound (leaves_of roles.now (words_in words.entry)) }
 {
     let mut words = words;
     let mut roles = roles;

@@ -19,8 +19,8 @@ use fx_model::Rounding;
 use script_shape::due::Due;
 use script_shape::shape::leaves_are_of_trees;
 use script_words::class::Symbol;
-use script_words::words::Word;
 use script_words::list::WordList;
+use script_words::words::Word;
 use std::alloc::Global;
 use std::marker::Model;
 

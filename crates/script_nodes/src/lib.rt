@@ -1,7 +1,6 @@
 //! The nodes of a script's expressions and definitions, read from the left.
 #![tactic(auto)]
 
-
 pub mod definitions;
 pub mod digits;
 mod expressions;

@@ -2,7 +2,6 @@
 //! spells none.
 #![tactic(auto)]
 
-
 mod refused;
 
 pub use refused::refused_line;

@@ -4,8 +4,8 @@ ghost use Rattle.script_judge.specs.declared.refusal.Refusal.{Refusal};
 ghost use Rattle.script_grammar.specs.Spells.{IsRefused};
 ghost use Rattle.script_texts.specs.Texts.{IsRefusedWith};
 
-use script_grammar::ParseStop;
 use report::refusals::refusal_line;
+use script_grammar::ParseStop;
 use std::alloc::{AllocError, Global};
 
 /// The line of a text that gives no script: why, and at which byte. `Err` only where memory runs

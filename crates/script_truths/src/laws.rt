@@ -7,12 +7,12 @@ ghost use Rattle.script_truths.specs.Truths.{MetRowsAreTrue, UniversesExtend, Of
 ghost use Rattle.script_truths.specs.Truths.{WhereMet, HypothesesHold, HintsAreTrue};
 ghost use Rattle.script_truths.specs.Truths.{LiesInWholeBox, SettledGoalsAreTrue, GoalLinesHold};
 
-use script_claims::{goals_are_enough, hypotheses_hold};
 use box_tree::hypotheses_are_in_the_box;
-use poly_normal::equal_forms_have_equal_values;
-use script_meets::met_scripts;
 use expr_dag::values_stay;
+use poly_normal::equal_forms_have_equal_values;
 use rewrite_hints::rows_are_true;
+use script_claims::{goals_are_enough, hypotheses_hold};
+use script_meets::met_scripts;
 
 /// Nothing is done. The clauses tell a caller that nodes have their values where more nodes follow;
 /// so facts and lines about them hold, claims and rows are true, over both lists or over neither.

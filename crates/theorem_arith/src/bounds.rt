@@ -5,8 +5,8 @@ ghost use Rattle.theorem_arith.specs.Bounds.{difference_rule, product_rule};
 ghost use Rattle.theorem_arith.specs.Bounds.{difference_with_itself_rule, square_rule};
 
 use expr_dag::Dag;
-use fx_model::{ExprId, Node};
 use facts::{Fact, Slot};
+use fx_model::{ExprId, Node};
 use interval::{Interval, enclose};
 
 /// For a literal c: BND(c, [down c, up c]).

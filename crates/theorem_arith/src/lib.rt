@@ -1,7 +1,6 @@
 //! Rules on bounds and absolute values: numbers 1 to 19 of the list.
 #![tactic(auto)]
 
-
 mod bounds;
 mod laws;
 mod quotients;

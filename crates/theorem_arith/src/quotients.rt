@@ -4,8 +4,8 @@ ghost use Rattle.theorem_arith.specs.Bounds.{quotient_rule, quotient_by_nonzero_
 ghost use Rattle.theorem_arith.specs.Bounds.{quotient_by_itself_rule};
 
 use expr_dag::Dag;
-use fx_model::Node;
 use facts::{Fact, Slot};
+use fx_model::Node;
 use interval::Interval;
 
 /// From BND(a, I), BND(b, J), where 0 isn't in J: BND(a / b, I / J) (Gappa: `div`).

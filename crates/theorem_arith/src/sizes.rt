@@ -4,10 +4,10 @@ ghost use Rattle.theorem_arith.specs.Sizes.{size_of_negation_rule, size_of_produ
 ghost use Rattle.theorem_arith.specs.Sizes.{size_within_part, size_of_quotient_rule, least_size};
 ghost use Rattle.theorem_arith.specs.Sizes.{size_of_sum, size_of_sum_rule};
 
-use expr_dag::Dag;
-use fx_model::Node;
 use dyadic::{End, greater};
+use expr_dag::Dag;
 use facts::{Fact, Size, Slot};
+use fx_model::Node;
 use interval::Interval;
 
 /// From ABS(a, I): ABS(-a, I) (Gappa: `neg_a`).

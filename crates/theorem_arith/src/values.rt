@@ -6,10 +6,10 @@ ghost use Rattle.theorem_arith.specs.Sizes.{is_below, signed_fact, sign_rule, ab
 ghost use Rattle.theorem_arith.specs.Sizes.{abs_or_void, void_if_none, is_absolute_value};
 ghost use Rattle.theorem_arith.specs.Sizes.{size_of_value_rule};
 
-use expr_dag::Dag;
-use fx_model::{ExprId, Node};
 use dyadic::End;
+use expr_dag::Dag;
 use facts::{Fact, Size, Slot};
+use fx_model::{ExprId, Node};
 use interval::{Interval, opposite};
 
 /// From BND(x, I): ABS(x, abs I) (Gappa: `abs_of_bnd`).

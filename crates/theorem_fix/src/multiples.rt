@@ -13,10 +13,10 @@ ghost use Rattle.theorem_fix.specs.Multiples.{number_multiple_rule};
 use crate::places::{keep, lesser, product_place};
 use crate::shape::rounding;
 use dyadic::{Dyadic, End};
-use literal::fix_of;
 use expr_dag::Dag;
-use fx_model::{ExprId, Literal, Node, Rounding};
 use facts::{Fact, FixPlace, Slot};
+use fx_model::{ExprId, Literal, Node, Rounding};
+use literal::fix_of;
 
 /// For a literal c: FIX(c, k), where k is the greatest of which it is a multiple.
 #[inline(always)]

@@ -8,10 +8,10 @@ ghost use Rattle.theorem_fix.specs.Nonzero.{nonzero_product_rule, nonzero_quotie
 ghost use Rattle.theorem_fix.specs.Nonzero.{nonzero_negation_rule, are_sides, nonzero_or_void};
 ghost use Rattle.theorem_fix.specs.Nonzero.{nonzero_side_rule};
 
-use interval::Interval;
 use expr_dag::Dag;
-use fx_model::{ExprId, Node};
 use facts::{Fact, RelativeError, Slot};
+use fx_model::{ExprId, Node};
+use interval::Interval;
 
 /// From BND(x, I), where 0 isn't in I: NZR(x) (Gappa: `nzr_of_bnd`).
 #[inline(always)]

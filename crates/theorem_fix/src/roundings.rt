@@ -10,11 +10,11 @@ ghost use Rattle.theorem_fix.specs.Roundings.{multiple_error_rule};
 
 use crate::shape::{error_rounding, rounding};
 use dyadic::End;
+use expr_dag::Dag;
+use facts::{Fact, Slot};
+use fx_model::{Direction, Rounding};
 use interval::Interval;
 use rounding::{Sign, error_interval, round_grid};
-use expr_dag::Dag;
-use fx_model::{Direction, Rounding};
-use facts::{Fact, Slot};
 
 /// From BND(x, [p, q]): BND(R(x), [R(p), R(q)]); infinite ends stay.
 #[inline(always)]

@@ -3,9 +3,9 @@ ghost use Rattle.std.specs.Prelude.{◌≡◌};
 ghost use Rattle.theorem_fix.specs.Shrunk.{shrunk_of, shrinking_rule, void_without};
 ghost use Rattle.theorem_fix.specs.Shrunk.{no_multiple_rule};
 
-use interval::Interval;
 use expr_dag::Dag;
 use facts::{Fact, FixPlace, Slot};
+use interval::Interval;
 
 /// From BND(x, I), FIX(x, k): BND(x, I shrunk to its multiples of 2^k), where it has one.
 #[inline(always)]

@@ -59,7 +59,6 @@ by_rows P (e ∷ others) n z h = by_test (n == e.0) refl (by_rows P others n z h
 
 -- one row, and the others
 infixr 5 ◌⨾◌
-
 ◌⨾◌ : {A B : Type 0} → A → B → A × B
 x ⨾ y = (x, y)
 

@@ -16,8 +16,8 @@ ghost use Rattle.theorem_rel.specs.Operations.{relative_sum_rule};
 
 use crate::parts::error_within;
 use expr_dag::Dag;
-use fx_model::{ExprId, Node};
 use facts::{Fact, RelativeError, Slot};
+use fx_model::{ExprId, Node};
 use interval::Interval;
 
 /// From REL(a, c, I), REL(b, d, K): REL(a * b, c * d, (I + K) + I * K); both are 0 where those of a

@@ -2,8 +2,8 @@
 ghost use Rattle.std.specs.Prelude.{◌≡◌};
 ghost use Rattle.facts.specs.Parts.{error_of_part};
 
-use interval::Interval;
 use facts::RelativeError;
+use interval::Interval;
 
 /// The interval, where there is one, as relative errors.
 #[inline(always)]

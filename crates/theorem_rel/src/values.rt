@@ -7,8 +7,8 @@ ghost use Rattle.theorem_rel.specs.Values.{quotient_by_error_rule};
 
 use crate::parts::error_within;
 use expr_dag::Dag;
-use fx_model::{ExprId, Node};
 use facts::{Fact, RelativeError, Slot};
+use fx_model::{ExprId, Node};
 use interval::Interval;
 
 /// From BND(x): REL(x, x, [0, 0]) (Gappa: `rel_refl`).

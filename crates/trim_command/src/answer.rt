@@ -17,16 +17,16 @@ ghost use Rattle.trim_command.specs.declared.stop.TrimStop.TheVariants as TrimSt
 
 use crate::stop::TrimStop;
 use crate::writing::write_trimmed;
-use cert_rewriting::WriteStop;
-use cert_checker::{Accepted, CheckStop};
 use cert_bytes::Reader;
+use cert_checker::{Accepted, CheckStop};
+use cert_rewriting::WriteStop;
 use cert_trim::trimmed_are_accepted;
-use script_grammar::{Script, parse};
-use report::certificates::{cert_fault_line, check_fault_line};
-use script_texts::refused_line;
-use script_checker::script_items;
 use command_runs::Status;
 use fx_edge::Folder;
+use report::certificates::{cert_fault_line, check_fault_line};
+use script_checker::script_items;
+use script_grammar::{Script, parse};
+use script_texts::refused_line;
 use std::alloc::Global;
 
 // The items of the certificate of this name, where it is accepted for the script.

@@ -1,8 +1,8 @@
 // One answer is defined for a text and a certificate, and those that are accepted are trimmed.
 ghost use Rattle.trim_command.specs.Laws.{AcceptableAreTrimmed, TrimAnswersAreOne};
 
-use cert_checker::bytes_are_accepted;
 use cert_bytes::certificates_are_spelled_once;
+use cert_checker::bytes_are_accepted;
 use cert_trim::trimmed_are_accepted;
 use check_command::check_answers_are_one;
 use script_checker::checks_are_one;

@@ -1,7 +1,6 @@
 //! The command `trim`: writes a certificate of a script anew, without its unused steps.
 #![tactic(auto)]
 
-
 mod answer;
 mod command;
 mod laws;

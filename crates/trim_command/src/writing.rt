@@ -8,12 +8,12 @@ ghost use Rattle.cert_rewriting.specs.declared.writing.WriteStop.TheVariants as 
 ghost use Rattle.trim_command.specs.Writing.{Writes, IsBegun};
 
 use crate::lines::trimmed_line;
-use cert_rewriting::{MOST, WriteStop, spelled_length, write_items};
 use cert_bytes::Item;
+use cert_rewriting::{MOST, WriteStop, spelled_length, write_items};
 use cert_trim::trim;
-use report::certificates::new_too_long_line;
 use command_runs::Status;
 use fx_edge::Folder;
+use report::certificates::new_too_long_line;
 use std::alloc::Global;
 
 // The status and the line of items, with which nothing is wrong, that are written without unused

@@ -3,8 +3,8 @@
 ghost use Rattle.std.specs.Prelude.{IfOk};
 ghost use Rattle.rewrite_hints.specs.Marks.{AreMarks};
 
-use rewrite_hints::marks_of;
 use facts::HintMark;
+use rewrite_hints::marks_of;
 use script_grammar::Script;
 use std::alloc::{AllocError, Global};
 

@@ -10,10 +10,10 @@ ghost use Rattle.universe.specs.Universes.{IsUniverse, IsTooLarge};
 ghost use Rattle.universe.specs.declared.world.UniverseFault.TheVariants as UniverseFault;
 
 use crate::starts::starting_pairs;
-use rewrite_hints::rows_of;
 use pair_closure::{Closure, ClosureFault, closure_of};
-use rule_universe::Universe;
+use rewrite_hints::rows_of;
 use rule_instances::instances_of;
+use rule_universe::Universe;
 use script_claims::{Claim, facts_of, goals_of};
 use script_grammar::Script;
 use std::alloc::{AllocError, Global};
@@ -48,8 +48,8 @@ impl From<ClosureFault> for UniverseFault {
     }
 }
 
-// The same universe, with its instances in order where a hint splits a variable: elsewhere no box is
-// below the root.
+// The same universe. Its instances are in order where a hint splits a variable, as no box is below
+// the root elsewhere.
 fn in_order(alloc: Global, universe: Universe, script: &Script<'_>) -> Result<Universe, AllocError>
     ensures { IfOk result (λ u. u ≡ universe) }
 {

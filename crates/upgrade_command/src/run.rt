@@ -9,11 +9,11 @@ ghost use Rattle.upgrade_command.specs.Command.{IsUpgradeRun};
 use cert_bytes::{CertFault, Seen};
 use cert_upgrade::{UpgradeStop, items_are_one, upgrade};
 use command_line::UpgradeRequest;
-use whole_texts::ReadStop;
 use command_runs::{Status, print, print_stop};
 use fx_edge::{Folder, Sink};
 use report::certificates::{cert_fault_line, new_too_long_line, upgraded_line};
 use std::alloc::Global;
+use whole_texts::ReadStop;
 
 // Puts how many sections and steps a certificate has.
 fn print_counts<O: Sink>(alloc: Global, counts: Seen, out: &mut O) -> Status

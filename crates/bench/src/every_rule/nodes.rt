@@ -4,8 +4,8 @@ ghost use Rattle.std.specs.Prelude.{length, IsTrue};
 ghost use Rattle.expr_dag.specs.Nodes.{IsLawful};
 
 use anyhow::Result;
-use fx_model::Node::{Abs, Add, Div, Lit, Mul, Neg, Round, Sub, Var};
 use expr_dag::{Dag, DagFault};
+use fx_model::Node::{Abs, Add, Div, Lit, Mul, Neg, Round, Sub, Var};
 use fx_model::{Direction, ExprId, Node, Rounding};
 use literal::read_bytes;
 use std::alloc::Global;

@@ -109,7 +109,6 @@ inverse_ℚ x = lift (Quot-set {r = Same}) (λ a. mk (inverse_ratio a))
     (λ a b h. sound {r = Same} (inverse_same a b h)) x
 
 infixl 7 ◌/ℚ◌
-
 -- The quotient of two fractions, exactly; a quotient by 0 is 0.
 abbrev pub ◌/ℚ◌ : Fraction → Fraction → Fraction
 x /ℚ y = x *ℚ inverse_ℚ y
