@@ -1,7 +1,7 @@
 #!/usr/bin/env python3
 """What `prove` answers to random scripts under random options: status and lines.
 
-    tools/compare/answers.py PROGRAM REFERENCE COUNT SEED [JOBS]
+    tools/compare/answers.py COUNT SEED [JOBS] [--program PROGRAM]
 
 Words and counts are those of runs.py. Scripts are of four kinds: engineers' (roundings, hints,
 relative errors, cuts), plain expressions, texts of the whole grammar, and damaged ones. Each is

@@ -1,7 +1,7 @@
 #!/usr/bin/env python3
 """What `at` says of random points of random scripts: status and lines.
 
-    tools/compare/at_runs.py PROGRAM REFERENCE COUNT SEED [JOBS]
+    tools/compare/at_runs.py COUNT SEED [JOBS] [--program PROGRAM]
 
 Words and counts are those of runs.py. Scripts are engineers' and others, some damaged. Of each
 there are some points in its ranges and some outside, as numbers, as quotients and with long
@@ -66,10 +66,9 @@ def point_of(rng, names, point):
 
 def names_in(text):
     """The script's variables, or None where it is refused."""
-    script = runs.module("script")
     try:
-        return [name for name, _ in script.parse(text).variables]
-    except script.Refusal:
+        return [name for name, _ in runs.module("parser").parse(text).variables]
+    except runs.module("tokens").Refusal:
         return None
 
 

@@ -1,7 +1,7 @@
 #!/usr/bin/env python3
 """What `batch` answers to random lists of scripts, by 1, 2, 4 and 16 workers: status and lines.
 
-    tools/compare/batch_runs.py PROGRAM REFERENCE COUNT SEED [JOBS]
+    tools/compare/batch_runs.py COUNT SEED [JOBS] [--program PROGRAM]
 
 Words and counts are those of runs.py. Lists name 1 to 5 scripts, some twice, some that aren't
 there, some under odd names; some lists are damaged, and a few have 64 names or 65. Options are

@@ -1,7 +1,7 @@
 #!/usr/bin/env python3
 """What `upgrade` makes of certificates of random items: status, line and the new file.
 
-    tools/compare/certificates.py PROGRAM REFERENCE COUNT SEED [JOBS]
+    tools/compare/certificates.py COUNT SEED [JOBS] [--program PROGRAM]
 
 Words and counts are those of runs.py. A case is one list of items of no script, with all kinds of
 facts, nodes and numbers. It is written in either version, as it is and with five damages of its

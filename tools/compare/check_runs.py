@@ -1,7 +1,7 @@
 #!/usr/bin/env python3
 """What `check` answers to certificates that the reference writes: status and lines.
 
-    tools/compare/check_runs.py PROGRAM REFERENCE COUNT SEED [JOBS]
+    tools/compare/check_runs.py COUNT SEED [JOBS] [--program PROGRAM]
 
 Words and counts are those of runs.py. A case is a random script with its certificate in one of
 the versions: as it is, with four damages of its bytes, and for another script.

@@ -1,7 +1,7 @@
 #!/usr/bin/env python3
 """What `check` answers to certificates of which an item is changed: status and lines.
 
-    tools/compare/checks.py PROGRAM REFERENCE COUNT SEED [JOBS]
+    tools/compare/checks.py COUNT SEED [JOBS] [--program PROGRAM]
 
 Words and counts are those of runs.py. A case is a random script with ten certificates. They are
 the reference's for that script, with one or two items changed: rules, facts, cited steps, cuts,

@@ -1,7 +1,7 @@
 #!/usr/bin/env python3
 """What `prove` answers to damaged scripts, and `check` to damaged certificates: status and lines.
 
-    tools/compare/damages.py scripts|certificates PROGRAM REFERENCE COUNT SEED [JOBS]
+    tools/compare/damages.py scripts|certificates COUNT SEED [JOBS] [--program PROGRAM]
 
 The other words and counts are those of runs.py. COUNT is how many damaged files are compared,
 rounded up to fifties: a case is fifty damages of one file. Scripts are engineers', and are proved

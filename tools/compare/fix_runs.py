@@ -1,7 +1,7 @@
 #!/usr/bin/env python3
 """What `fix` makes of random fixed-point programs: status, line and script.
 
-    tools/compare/fix_runs.py PROGRAM REFERENCE COUNT SEED [JOBS]
+    tools/compare/fix_runs.py COUNT SEED [JOBS] [--program PROGRAM]
 
 Words and counts are those of runs.py. Fixed-point programs are random, whole and damaged. No
 script may stand where the reference makes none. A script that was made is proved with few rounds,

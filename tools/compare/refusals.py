@@ -1,7 +1,7 @@
 #!/usr/bin/env python3
 """What `prove` answers to random texts of the whole grammar: status and lines.
 
-    tools/compare/refusals.py PROGRAM REFERENCE COUNT SEED [JOBS]
+    tools/compare/refusals.py COUNT SEED [JOBS] [--program PROGRAM]
 
 Words and counts are those of runs.py. Texts use all of the grammar; some are at a limit or past
 it, some are a few words, and most are damaged, in words and in bytes. One refusal is told of

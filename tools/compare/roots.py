@@ -1,7 +1,7 @@
 #!/usr/bin/env python3
 """What `prove` knows of single goals in one box, after few rounds or many: status and lines.
 
-    tools/compare/roots.py PROGRAM REFERENCE COUNT SEED [JOBS]
+    tools/compare/roots.py COUNT SEED [JOBS] [--program PROGRAM]
 
 Words and counts are those of runs.py. Scripts have roundings, relative errors, products,
 quotients and rewriting hints. A case is one script with up to six goals `.. in ?`, each of which

@@ -1,27 +1,23 @@
-"""The head of the comparisons with a reference: their words, cases, time limits and counts.
+"""The head of the comparisons with the reference: their words, cases, time limits and counts.
 
-    tools/compare/NAME.py PROGRAM REFERENCE COUNT SEED [JOBS]
+    tools/compare/NAME.py COUNT SEED [JOBS] [--program PROGRAM]
 
-PROGRAM is the built program (crates/fx_main/out/fx_main). REFERENCE is a folder with a package
-`reference`, another implementation of the same commands, which a user has to bring. COUNT is how
-many cases are tried, and SEED makes them others. JOBS of them are tried at once, 2 where that
-isn't given.
+COUNT is how many cases are tried, and SEED makes them others. JOBS of them are tried at once, 2
+if that isn't given. PROGRAM is the built program. If it isn't given, it is the one that `FIXPROVE`
+names in the environment, and else crates/fx_main/out/fx_main. The reference is the package
+`reference` of this repository.
 
 A comparison is two functions. `rows(case)` yields what is compared in a case, as tuples, and
 draws from `case.rng` alone. `compare(case, *row)` tells what is counted of a row, such as `status
-0`. It raises `Differs` where something differs, mostly by `same`.
-
-Of the package a comparison asks `commands.MemFolder(files)` with its `files`, and
-`commands.Program(folder).run(words)`, which answers with the status and the printed text. Some
-ask for more: `certificate`, `facts`, `grid`, `script`, `program`.
+0`. It raises `Differs` if something differs, mostly by `same`.
 
 The reference may take ten seconds for a run. A run that takes longer is counted as `slow`, and
 one at which it breaks down as `reference: ..` with the name of the fault. Nothing is compared
 there. The built program may take 120 seconds for a run. A run that takes longer is a difference.
 
 Prints each difference with its seed and row, how often each kind came, and how many rows were
-compared and differ. The status is 0 where some were compared and none differs, 1 where one
-differs or none was compared, and 2 where the words aren't as above.
+compared and differ. The status is 0 if some were compared and none differs, 1 if one differs or
+none was compared, and 2 if the words aren't as above.
 """
 
 import collections
@@ -35,10 +31,12 @@ import subprocess
 import sys
 import tempfile
 
-# Comparisons use modules of tools/, too.
-sys.path.append(os.path.dirname(os.path.dirname(os.path.abspath(__file__))))
+# Comparisons use modules of tools/, too, and the reference beside it.
+TOOLS = os.path.dirname(os.path.dirname(os.path.abspath(__file__)))
+sys.path += [TOOLS, os.path.dirname(TOOLS)]
 
-USAGE = "usage: %s %sPROGRAM REFERENCE COUNT SEED [JOBS]"
+USAGE = "usage: %s %sCOUNT SEED [JOBS] [--program PROGRAM]"
+BUILT = os.path.join(os.path.dirname(TOOLS), "crates", "fx_main", "out", "fx_main")
 SECONDS = 10
 MOST_SECONDS = 120
 
@@ -173,10 +171,9 @@ class Comparison:
         return counted, compared, differences
 
 
-def begin(reference, comparison):
+def begin(comparison):
     """What a job does first."""
     global COMPARISON
-    sys.path.insert(0, reference)
     COMPARISON = comparison
 
 
@@ -185,32 +182,41 @@ def tried(seed):
 
 
 def words_of(words, kinds):
-    """Kind, program, reference, count, seed and jobs; or None."""
-    kind = None
+    """Kind, program, count, seed and jobs; or None if the words aren't so."""
+    words, kind, program = list(words), None, os.environ.get("FIXPROVE") or BUILT
+    if "--program" in words[:-1]:
+        at = words.index("--program")
+        program = words[at + 1]
+        del words[at:at + 2]
     if kinds:
         kind, words = (words or [None])[0], words[1:]
         if kind not in kinds:
             return None
-    if len(words) not in (4, 5) or not all(word.isdecimal() for word in words[2:]):
+    if len(words) not in (2, 3) or not all(word.isdecimal() for word in words):
         return None
-    program, reference = map(os.path.abspath, words[:2])
-    if not os.path.isfile(program) or not os.path.isdir(os.path.join(reference, "reference")):
-        return None
-    count, seed, jobs = [int(word) for word in words[2:] + ["2"]][:3]
-    return kind, program, reference, count, seed, max(jobs, 1)
+    count, seed, jobs = [int(word) for word in words + ["2"]][:3]
+    return kind, os.path.abspath(program), count, seed, max(jobs, 1)
 
 
 def main(rows, compare, kinds=(), many=1):
     """Tries the cases that the words ask for; a case counts as so many of COUNT."""
+    usage = USAGE % (sys.argv[0], "|".join(kinds) + " " if kinds else "")
+    if sys.argv[1:] in (["--help"], ["-h"]):
+        print(usage)
+        return 0
     given = words_of(sys.argv[1:], kinds)
     if given is None:
-        print(USAGE % (sys.argv[0], "|".join(kinds) + " " if kinds else ""), file=sys.stderr)
+        print(usage, file=sys.stderr)
         return 2
-    kind, program, reference, count, seed, jobs = given
+    kind, program, count, seed, jobs = given
+    if not os.access(program, os.X_OK) or os.path.isdir(program):
+        print("%s: %s isn't a program (./fixprove build makes it; --program names another)"
+              % (sys.argv[0], program), file=sys.stderr)
+        return 2
     seeds = [seed * 1000003 + k for k in range((count + many - 1) // many)]
     counts, compared, differ = collections.Counter(), 0, 0
     comparison = Comparison(program, kind, rows, compare)
-    with multiprocessing.Pool(jobs, begin, (reference, comparison)) as pool:
+    with multiprocessing.Pool(jobs, begin, (comparison,)) as pool:
         for counted, rows_compared, differences in pool.imap_unordered(tried, seeds, chunksize=4):
             counts.update(counted)
             compared += rows_compared

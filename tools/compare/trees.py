@@ -1,7 +1,7 @@
 #!/usr/bin/env python3
 """What `prove` makes of scripts with cuts and halves: status, lines, and the certificate's tree.
 
-    tools/compare/trees.py PROGRAM REFERENCE COUNT SEED [JOBS]
+    tools/compare/trees.py COUNT SEED [JOBS] [--program PROGRAM]
 
 Words and counts are those of runs.py. Each variable has some ranges, and hints cut them in
 pieces, at points or by halves. Depth and boxes are random, so that some trees have no room. Of a

@@ -1,7 +1,7 @@
 #!/usr/bin/env python3
 """What `trim` makes of certificates of random scripts: status, line and the new file.
 
-    tools/compare/trim_runs.py PROGRAM REFERENCE COUNT SEED [JOBS]
+    tools/compare/trim_runs.py COUNT SEED [JOBS] [--program PROGRAM]
 
 Words and counts are those of runs.py. Scripts are engineers'. Of each that the reference proves
 there are: the certificate that the built program writes, which has steps that nothing uses; and

@@ -1,7 +1,7 @@
 #!/usr/bin/env python3
 """What `upgrade` makes of certificates of random scripts: status, line and the new file.
 
-    tools/compare/upgrade_runs.py PROGRAM REFERENCE COUNT SEED [JOBS]
+    tools/compare/upgrade_runs.py COUNT SEED [JOBS] [--program PROGRAM]
 
 Words and counts are those of runs.py. Certificates are those of check_runs.py, in both versions,
 whole and damaged. No new file may stand where the reference makes none. What was rewritten is

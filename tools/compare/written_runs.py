@@ -1,7 +1,7 @@
 #!/usr/bin/env python3
 """What the built program writes with `prove --cert`, checked by itself and by the reference.
 
-    tools/compare/written_runs.py PROGRAM REFERENCE COUNT SEED [JOBS]
+    tools/compare/written_runs.py COUNT SEED [JOBS] [--program PROGRAM]
 
 Words and counts are those of runs.py. Scripts are engineers', with random options and 1, 3 or 16
 workers. Where the built program proves a script, the run without `--cert` prints the same, the
