@@ -1,89 +1,46 @@
-"""Scripts, read by the grammar of docs/FORMATS.md, and exact numbers: the part of `assistants.py` that runs nothing.
+"""Scripts, read by the grammar of docs/FORMATS.md. Numbers stand in exact.py, values in
+script_evaluation.py; all three run nothing.
 
-The program judges scripts; this reading is for texts that it takes.
+The reader stops at the first token that has no place, as the program does. What else the program
+refuses it may read.
 """
 
-import random
 import re
 import sys
 from collections import namedtuple
-from decimal import ROUND_CEILING, ROUND_FLOOR, ROUND_HALF_EVEN, Context, Decimal  # noqa: F401
-from fractions import Fraction
+
+from exact import (  # noqa: F401
+    ROUND_CEILING,
+    ROUND_FLOOR,
+    ROUND_HALF_EVEN,
+    Context,
+    Decimal,
+    Fault,
+    decimal,
+    decimals,
+    literal_of,
+    literal_value,
+    near,
+    rounded,
+    value_of,
+)
+
+from script_evaluation import Evaluated, children  # noqa: F401
 
 sys.setrecursionlimit(20000)
 
 
-class Fault(Exception):
-    """What keeps a tool from its work, in one line."""
-
-
-# ---- numbers
-
-def value_of(end):
-    """What an end of a line stands for, such as 5b-3; None for an infinite one."""
-    if end.endswith("inf"):
-        return None
-    mantissa, _, exponent = end.partition("b")
-    return int(mantissa) * Fraction(2) ** int(exponent or 0)
-
-
-def decimal(exact, digits=6, rounding=ROUND_FLOOR):
-    """A fraction in decimals, to so many significant digits."""
-    if exact == 0:
-        return "0"
-    whole = Context(prec=digits + 30, rounding=rounding).divide(Decimal(exact.numerator), Decimal(exact.denominator))
-    near = Context(prec=digits, rounding=rounding).plus(whole)
-    text = format(near, "f") if -5 <= near.adjusted() < digits + 3 else format(near, "e")
-    if "." in text and "e" not in text.lower():
-        text = text.rstrip("0").rstrip(".")
-    return re.sub(r"(\.[0-9]*?)0+e", r"\1e", text).replace(".e", "e")
-
-
-def decimals(interval, digits=6):
-    """An interval in decimals that holds it: the lower end rounded down, the upper up."""
-    if isinstance(interval, str):
-        return interval
-    low, high = interval
-    return "[%s, %s]" % ("-inf" if low is None else decimal(low, digits, ROUND_FLOOR),
-                         "+inf" if high is None else decimal(high, digits, ROUND_CEILING))
-
-
-def literal_value(text):
-    """What a literal stands for."""
-    if text.startswith("0x"):
-        body, _, exponent = text[2:].partition("p")
-        front, _, back = body.partition(".")
-        return int(front + back, 16) * Fraction(2) ** (int(exponent or 0) - 4 * len(back))
-    base, mark = (2, "b") if "b" in text else (10, "e")
-    body, _, exponent = text.partition(mark)
-    front, _, back = body.partition(".")
-    shift = int(exponent or 0) - len(back)
-    if abs(shift) > 5000:
-        raise Fault("a literal is past its limits: %s" % text[:40])
-    return int(front + back) * Fraction(base) ** shift
-
-
-def rounded(direction, power, number):
-    """The multiple of 2^power that the direction gives for a fraction."""
-    unit = Fraction(2) ** power
-    scaled = number / unit
-    floor = scaled.numerator // scaled.denominator
-    rest = scaled - floor
-    if rest == 0:
-        return number
-    up = {"dn": False, "up": True, "zr": number < 0, "aw": number > 0, "od": floor % 2 == 0}.get(direction)
-    if up is None:
-        tie = {"ne": floor % 2 == 1, "no": floor % 2 == 0, "nz": number < 0, "na": number > 0, "nd": False, "nu": True}
-        up = tie[direction] if rest == Fraction(1, 2) else rest > Fraction(1, 2)
-    return (floor + 1 if up else floor) * unit
-
-
 # ---- scripts
 
-TOKEN = re.compile(r"(?:[ \t\r\n]+|#[^\n]*)*(?:(?P<literal>0x[0-9a-fA-F]+(?:\.[0-9a-fA-F]+)?(?:p[+-]?[0-9]+)?|[0-9]+b[+-]?[0-9]+"
-                   r"|[0-9]+(?:\.[0-9]+)?(?:e[+-]?[0-9]+)?)|(?P<name>[A-Za-z_][A-Za-z0-9_]*)"
-                   r"|(?P<sign><=|>=|<>|->|-/|/\\|\\/|[{}()\[\],;=+\-*/|<>?$~@])|(?P<end>$))")
+BLANK = re.compile(r"(?:[ \t\r\n]+|#[^\n]*)*")
+TOKEN = re.compile(
+    r"(?P<literal>0x[0-9a-fA-F]+(?:\.[0-9a-fA-F]+)?(?:p[+-]?[0-9]+)?|[0-9]+b[+-]?[0-9]+"
+    r"|[0-9]+(?:\.[0-9]+)?(?:e[+-]?[0-9]+)?)|(?P<name>[A-Za-z_][A-Za-z0-9_]*)"
+    r"|(?P<sign><=|>=|<>|->|-/|/\\|\\/|[{}()\[\],;=+\-*/|<>?$~@])"
+)
+FOLLOWED = re.compile(r"[A-Za-z0-9_]")
 RESERVED = ("in", "not", "fixed", "int", "fma", "float", "sqrt")
+DIRECTIONS = ("zr", "aw", "dn", "up", "od", "ne", "no", "nz", "na", "nd", "nu")
 Token = namedtuple("Token", "kind text start end")
 # a proposition: its kind is in, rel, le, ge or fix; `says` is its expression as it is written
 Claim = namedtuple("Claim", "kind negated left right lower upper ask says text")
@@ -91,37 +48,50 @@ Claim = namedtuple("Claim", "kind negated left right lower upper ask says text")
 Hint = namedtuple("Hint", "kind left right needs names text")
 
 
-def tokens_of(text):
+def tokens_up_to(text):
+    """A text's tokens up to its end, or up to the first place where none begins: the last has the
+    kind `end` or `bad`."""
     found, at = [], 0
     while True:
+        at = BLANK.match(text, at).end()
         match = TOKEN.match(text, at)
-        if not match:
-            raise Fault("no script has what stands at byte %d" % at)
-        kind = match.lastgroup
-        found.append(Token(kind, match.group(kind), match.start(kind), match.end(kind)))
+        if at == len(text):
+            return found + [Token("end", "", at, at)]
+        if not match or match.lastgroup == "literal" and FOLLOWED.match(text, match.end()):
+            return found + [Token("bad", "", at, at)]
+        found.append(Token(match.lastgroup, match.group(), at, match.end()))
         at = match.end()
-        if kind == "end":
-            return found
 
 
-def children(node):
-    return () if node[0] in ("var", "lit") else node[3:] if node[0] == "rnd" else node[1:]
+def tokens_of(text):
+    """A text's tokens; a Fault names the byte at which none begins."""
+    found = tokens_up_to(text)
+    if found[-1].kind == "bad":
+        raise misplaced(found[-1])
+    return found
 
 
-class Script:
-    """What a text spells. Nodes are ("var", name), ("lit", value), ("neg", a), ("abs", a), ("add", a, b), ("sub", a, b),
-    ("mul", a, b), ("div", a, b) or ("rnd", direction, power, a), children before their parents, none twice."""
+def misplaced(token):
+    """The Fault of a token that no script has at its place."""
+    return Fault("no script has what stands at byte %d" % token.start)
+
+
+class Script(Evaluated):
+    """What a text spells. Nodes are ("var", name), ("lit", value), ("neg", a), ("abs", a), ("add",
+    a, b), ("sub", a, b), ("mul", a, b), ("div", a, b) or ("rnd", direction, power, a), children
+    before their parents, none twice."""
 
     def __init__(self, text):
         self.text = text
         self.nodes, self.index = [], {}
         self.variables, self.defined, self.operators = {}, {}, {}
-        self.spelled = {}       # literal's node: its spelling
-        self.op = None          # what each operation is rounded by
-        self.tokens, self.at = tokens_of(text), 0
+        self.spelled = {}  # literal's node: its spelling
+        self.placed = {}  # rounding's node: the byte where it is first written
+        self.op = None  # what each operation is rounded by
+        self.tokens, self.at = tokens_up_to(text), 0
         while not self.see("{"):
             self.definition()
-        self.head = text[:self.take("{").start]
+        self.head = text[: self.take("{").start]
         self.parts = [self.part()]
         while self.see("->"):
             self.take("->")
@@ -155,14 +125,33 @@ class Script:
 
     def take(self, sign=None):
         token = self.peek()
-        if sign is not None and token.text != sign or token.kind == "end":
-            raise Fault("no script has what stands at byte %d" % token.start)
+        if sign is not None and token.text != sign or token.kind in ("end", "bad"):
+            raise misplaced(token)
         self.at += 1
         return token
 
+    def kind(self, kind, *words):
+        """Takes a token of a kind, one of these words if some are given."""
+        token = self.peek()
+        if token.kind != kind or words and token.text not in words:
+            raise misplaced(token)
+        return self.take()
+
+    def name(self):
+        """Takes a name that isn't reserved."""
+        if self.word(*RESERVED):
+            raise misplaced(self.peek())
+        return self.kind("name").text
+
+    def digits(self):
+        """Takes a literal of decimal digits alone, and gives its value."""
+        if not self.peek().text.isdigit():
+            raise misplaced(self.peek())
+        return int(self.kind("literal").text)
+
     def span(self, first):
         """The text from token number `first` up to the one that is next."""
-        return self.text[self.tokens[first].start:self.tokens[self.at - 1].end]
+        return self.text[self.tokens[first].start : self.tokens[self.at - 1].end]
 
     # -- expressions
 
@@ -172,36 +161,48 @@ class Script:
             self.nodes.append(node)
         return self.index[node]
 
-    def operation(self, kind, a, b):
+    def operation(self, kind, a, b, at):
+        """An operation that is written at byte `at`, rounded where the definition says so."""
         made = self.node((kind, a, b))
-        return made if self.op is None else self.node(("rnd",) + self.op + (made,))
+        return made if self.op is None else self.rounding(self.op, made, at)
+
+    def rounding(self, operator, inner, at):
+        """A rounding that is written at byte `at`."""
+        made = self.node(("rnd",) + operator + (inner,))
+        self.placed.setdefault(made, at)
+        return made
 
     def whole(self):
         sign = -1 if self.see("-") and self.take() else 1
-        return sign * int(self.take().text)
+        return sign * self.digits()
 
     def operator(self):
+        """An operator up to its direction: the direction and the power of two."""
         power = 0
-        if self.take().text == "fixed":
+        if self.kind("name", "fixed", "int").text == "fixed":
             self.take("<")
             power = self.whole()
             self.take(",")
         else:
             self.take("<")
-        return self.take().text, power
+        return self.kind("name", *DIRECTIONS).text, power
 
     def expr(self):
         left = self.term()
         while self.see("+", "-"):
-            kind = "add" if self.take().text == "+" else "sub"
-            left = self.operation(kind, left, self.term())
+            sign = self.take()
+            left = self.operation(
+                "add" if sign.text == "+" else "sub", left, self.term(), sign.start
+            )
         return left
 
     def term(self):
         left = self.factor()
         while self.see("*", "/"):
-            kind = "mul" if self.take().text == "*" else "div"
-            left = self.operation(kind, left, self.factor())
+            sign = self.take()
+            left = self.operation(
+                "mul" if sign.text == "*" else "div", left, self.factor(), sign.start
+            )
         return left
 
     def factor(self):
@@ -219,16 +220,16 @@ class Script:
             return inner if token.text == "(" else self.node(("abs", inner))
         if token.text == "fma":
             a, b, c = self.args(3)
-            return self.operation("add", self.node(("mul", a, b)), c)
+            return self.operation("add", self.node(("mul", a, b)), c, token.start)
         if token.text in ("fixed", "int") or token.text in self.operators:
             operator = self.operators.get(token.text)
             if operator is None:
                 self.at -= 1
                 operator = self.operator()
                 self.take(">")
-            return self.node(("rnd",) + operator + tuple(self.args(1)))
-        if token.kind != "name" or token.text in RESERVED:
-            raise Fault("no script has what stands at byte %d" % token.start)
+            return self.rounding(operator, self.args(1)[0], token.start)
+        if token.kind != "name" or token.text in RESERVED or self.see("("):
+            raise misplaced(token)
         if token.text in self.defined:
             return self.defined[token.text]
         return self.variables.setdefault(token.text, self.node(("var", token.text)))
@@ -238,13 +239,13 @@ class Script:
     def definition(self):
         if self.see("@"):
             self.take("@")
-            name = self.take().text
+            name = self.name()
             self.take("=")
             self.operators[name] = self.operator()
             self.take(">")
             self.take(";")
             return
-        name = self.take().text
+        name = self.name()
         if self.word("fixed", "int"):
             self.op = self.operator()
             if self.see(">="):
@@ -254,7 +255,11 @@ class Script:
                 self.take("=")
         else:
             if self.peek().kind == "name":
-                self.op = self.operators.get(self.take().text)
+                self.op = (
+                    self.operators[self.kind("name", *self.operators).text]
+                    if self.operators
+                    else self.kind("name", "fixed", "int")
+                )
             self.take("=")
         made = self.expr()
         self.op = None
@@ -263,7 +268,7 @@ class Script:
 
     def bound(self):
         sign = -1 if self.see("+", "-") and self.take().text == "-" else 1
-        return sign * literal_value(self.take().text)
+        return sign * literal_value(self.kind("literal").text)
 
     def part(self):
         found = [[self.claim()]]
@@ -278,13 +283,15 @@ class Script:
         negated = self.word("not") and bool(self.take())
         if self.see("@"):
             self.take("@")
-            self.take("FIX")
+            self.kind("name", "FIX")
             self.take("(")
             left = self.expr()
             self.take(",")
             power = self.whole()
             self.take(")")
-            return Claim("fix", False, left, None, power, None, False, self.span(first), self.span(first))
+            return Claim(
+                "fix", False, left, None, power, None, False, self.span(first), self.span(first)
+            )
         begin = self.at
         left, right, lower, upper, ask = self.expr(), None, None, None, False
         if self.see("<=", ">="):
@@ -299,7 +306,7 @@ class Script:
             self.take()
             kind, right = "rel", self.expr()
         says = self.span(begin)
-        self.take("in")
+        self.kind("name", "in")
         if self.see("?"):
             self.take()
             ask = True
@@ -315,34 +322,51 @@ class Script:
         first, left, right, needs, names, kind = self.at, None, None, [], [], "cut"
         if self.see("$"):
             self.take()
-            names.append(self.take().text)
-            while not self.see(";"):
+            names.append(self.name())
+            if self.word("in"):
                 self.take()
+                self.cut()
         else:
             left = self.expr()
             if self.see("->", "~"):
                 kind = "rewrite" if self.take().text == "->" else "like"
                 right = self.expr()
-                if self.see("{"):
+                if kind == "rewrite" and self.see("{"):
                     needs = self.needs()
             else:
                 kind = "halve"
-                while not self.see("$"):
-                    self.take()
-                self.take()
-                names = [self.take().text]
                 while self.see(","):
                     self.take()
-                    names.append(self.take().text)
+                    self.expr()
+                self.take("$")
+                names = [self.name()]
+                while self.see(","):
+                    self.take()
+                    names.append(self.name())
         self.take(";")
         return Hint(kind, left, right, needs, names, self.span(first))
 
+    def cut(self):
+        """The pieces of a cut, or its points."""
+        if not self.see("("):
+            return [self.digits()]
+        self.take("(")
+        found = [self.bound()]
+        while self.see(","):
+            self.take()
+            found.append(self.bound())
+        self.take(")")
+        return found
+
     def needs(self):
         found = []
-        while not self.see("}"):
-            self.take()
+        while not found or self.see(","):
+            self.take("{" if not found else ",")
             node = self.expr()
-            found.append((node, self.take().text, self.bound()))
+            sign = self.kind("sign", "<>", "<", "<=", ">", ">=").text
+            if sign == "<>" and self.peek().text != "0":
+                raise misplaced(self.peek())
+            found.append((node, sign, self.bound()))
         self.take("}")
         return found
 
@@ -363,12 +387,27 @@ class Script:
         return count
 
     def written(self, parts=None, goals=None, hints=None):
-        """The script with other hypothesis parts, goals or hints (texts); those that are None stay."""
-        parts = [[[c.text for c in some] for some in part] for part in self.parts] if parts is None else parts
-        shown = [" \\/ ".join(" /\\ ".join(some or ["0 in [0,0]"]) for some in part) for part in parts if part != [[]]]
+        """The script with other hypothesis parts, goals or hints (texts); those that are None
+        stay."""
+        parts = (
+            [[[c.text for c in some] for some in part] for part in self.parts]
+            if parts is None
+            else parts
+        )
+        shown = [
+            " \\/ ".join(" /\\ ".join(some or ["0 in [0,0]"]) for some in part)
+            for part in parts
+            if part != [[]]
+        ]
         shown.append(" /\\ ".join([c.text for c in self.goals] if goals is None else goals))
         lines = [h.text for h in self.hints] if hints is None else hints
-        return self.head + "{ " + "\n  -> ".join(shown) + " }\n" + "".join(line + "\n" for line in lines)
+        return (
+            self.head
+            + "{ "
+            + "\n  -> ".join(shown)
+            + " }\n"
+            + "".join(line + "\n" for line in lines)
+        )
 
     def hypotheses(self):
         """(part, conjunction, place) of each hypothesis, and the hypothesis."""
@@ -377,113 +416,8 @@ class Script:
                 for k, claim in enumerate(conjunction):
                     yield (p, c, k), claim
 
-    def ranges(self):
-        """Each variable with hypotheses `v in [a,b]`, and the hull of their ranges (what stands in several cases)."""
-        found = {}
-        for _, claim in self.hypotheses():
-            if claim.kind == "in" and self.nodes[claim.left][0] == "var":
-                name = self.nodes[claim.left][1]
-                low, high = found.get(name, (claim.lower, claim.upper))
-                found[name] = min(low, claim.lower), max(high, claim.upper)
-        return found
-
     def names(self):
         """The name of each node that has one; where several have, the last."""
         found = {node: name for name, node in self.defined.items() if self.nodes[node][0] != "lit"}
         found.update((node, name) for name, node in self.variables.items())
         return found
-
-    def holds(self, claim, point):
-        """Whether a proposition is true at a point."""
-        left = self.value(claim.left, point)
-        if claim.kind == "rel":
-            right = self.value(claim.right, point)
-            if not left or not right:
-                return left == right == 0
-            left = left / right - 1
-        if left is None:
-            return False
-        if claim.kind == "fix":
-            return (left / Fraction(2) ** claim.lower).denominator == 1
-        inside = (claim.lower is None or left >= claim.lower) and (claim.upper is None or left <= claim.upper)
-        return inside != claim.negated
-
-    def meets(self, point):
-        """Whether some conjunction of every hypothesis part is true at a point."""
-        return all(any(all(self.holds(claim, point) for claim in some) for some in part) for part in self.parts)
-
-    def points(self, count, seed=1):
-        """Points with each variable in its range and on its grid, where hypotheses give these; the same ones in each run."""
-        chance, ranges = random.Random(seed), self.ranges()
-        grids = {c.left: c.lower for _, c in self.hypotheses() if c.kind == "fix"}
-        for number in range(count):
-            point = {}
-            for name, node in self.variables.items():
-                low, high = ranges.get(name, (-2, 2))
-                share = Fraction(number % 3, 2) if number < 3 else Fraction(chance.randrange(1 << 20), 1 << 20)
-                point[name] = rounded("dn", grids.get(node, -40), low + (high - low) * share)
-            yield point
-
-    def judged(self, hint):
-        """What values at points say of a rewriting hint that isn't checked."""
-        tried, met, opaque = 0, 0, True
-        for point in self.points(60):
-            if not all(self.compared(self.value(node, point), sign, bound) for node, sign, bound in hint.needs):
-                continue
-            left, right = self.value(hint.left, point), self.value(hint.right, point)
-            if left is None or right is None:
-                continue
-            tried += 1
-            unknowns = {}
-            opaque = opaque and self.value(hint.left, point, unknowns) == self.value(hint.right, point, unknowns)
-            if left != right:
-                below = self.below([hint.left, hint.right])
-                where = ", ".join("%s = %s" % (n, decimal(point[n], 4)) for n, k in self.variables.items() if k in below)
-                return "its sides differ: at %s the left is %s, the right %s%s." % (
-                    where, decimal(left, 6), decimal(right, 6), "; this point meets the hypotheses" if self.meets(point) else "")
-        if not tried:
-            return "no point was found where it speaks."
-        if opaque:
-            return "its sides are equal at %d points, also with roundings as unknowns: true, but too large for the normal forms." % tried
-        return "its sides are equal at %d points; the check takes |..| and roundings as unknowns, and with these they differ." % tried
-
-    @staticmethod
-    def compared(value, sign, bound):
-        return value is not None and {"<>": value != bound, "<": value < bound, "<=": value <= bound, ">": value > bound}.get(sign, value >= bound)
-
-    def below(self, roots):
-        seen, todo = set(), list(roots)
-        while todo:
-            at = todo.pop()
-            if at not in seen:
-                seen.add(at)
-                todo.extend(children(self.nodes[at]))
-        return seen
-
-    def value(self, root, point, opaque=None):
-        """The exact value at {name: fraction}, None where there is none. With `opaque`, {node: fraction}, roundings and
-        absolute values are unknowns of their own, as in the program's check of hints."""
-        memo = {}
-
-        def of(at):
-            if at not in memo:
-                memo[at] = self.at_node(self.nodes[at], at, point, opaque, of)
-            return memo[at]
-        return of(root)
-
-    @staticmethod
-    def at_node(node, at, point, opaque, of):
-        kind = node[0]
-        if kind == "var":
-            return point[node[1]]
-        if kind == "lit":
-            return node[1]
-        if opaque is not None and kind in ("abs", "rnd"):
-            return opaque.setdefault(at, Fraction(7919 * (at + 3) % 10007, 8 + at))
-        inner = [of(child) for child in children(node)]
-        if None in inner or kind == "div" and inner[1] == 0:
-            return None
-        if kind in ("add", "sub", "mul", "div"):
-            a, b = inner
-            return a + b if kind == "add" else a - b if kind == "sub" else a * b if kind == "mul" else a / b
-        return -inner[0] if kind == "neg" else abs(inner[0]) if kind == "abs" else rounded(node[1], node[2], inner[0])
