@@ -6,6 +6,7 @@ Use:   ./fixprove build
 The crates that the program stands on are proved side by side, as many as there are processors and memory for, each once
 those below it are done. Each has a line when it is: how many are left, and about how many minutes. To stop, press Ctrl-C:
 the same command goes on where it was, and what is done stands. What the toolchain says is in crates/fx_main/out/build.log.
+That the program is proved is recorded beside it, for `--version` (tools/about.py).
 Ends with 0 where the program is built, and with 70 where it isn't.
 """
 import functools
@@ -15,6 +16,8 @@ import signal
 import subprocess
 import sys
 import time
+
+import about
 
 TOP = os.path.dirname(os.path.dirname(os.path.abspath(__file__)))
 PROGRAM = "fx_main"
@@ -123,14 +126,16 @@ def prove(work, log):
 
 def main(words):
     if words:
-        print(__doc__, end="", file=sys.stderr)
-        return 0 if words[0] in ("-h", "--help") else 2
+        is_asked = words[0] in ("-h", "--help")
+        print(__doc__, end="", file=sys.stdout if is_asked else sys.stderr)
+        return 0 if is_asked else 2
     # (so that the toolchain's command is ended, too)
     for it in (signal.SIGTERM, signal.SIGHUP, signal.SIGINT):
         signal.signal(it, lambda number, _: sys.exit(128 + number))
     work = Work(lanes())
     say(f"{len(work.left)} crates are to be proved and built, {work.minutes()} where none is; {work.at_once} at a time")
     os.makedirs(OUT, exist_ok=True)
+    sources = about.sources()
     with open(f"{TOP}/{LOG}", "wb") as log:
         how = {"cwd": f"{TOP}/crates/{PROGRAM}", "stdin": subprocess.DEVNULL, "stdout": log, "stderr": log}
         if not prove(work, log) or subprocess.run(["rt", "run", "--", "gen", "1"], **how).returncode:
@@ -138,6 +143,9 @@ def main(words):
             return 70
     # ./fixprove runs it while no source is newer: an edit during this run is
     os.utime(f"{OUT}/{PROGRAM}", (work.began, work.began))
+    if not about.record("./fixprove build", sources):
+        say("a source was changed meanwhile: ./fixprove build once more")
+        return 70
     say("the proved program is built")
     return 0
 
