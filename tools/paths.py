@@ -3,13 +3,11 @@
 
 Use, in the repository:   python3 tools/paths.py [--all | --cited | --write]
 
-A path leads from a crate down to one below it, or is the crate alone; each way down is one path. A kit that keeps no sums of
-crates reads a crate once for each path to it, so that its commands take longer with each. A crate's files cite another by
-`Rattle.NAME` or `NAME::`. A crate hands on the definitions of another by `pub use Rattle.NAME.specs as NAME` in specs/Lib.antt:
-those above cite them by `Rattle.CRATE.specs.NAME`, and don't list it. (It hands on code by items, `pub use NAME::Item;`.)
+A crate's files cite another by `Rattle.NAME` or `NAME::`, and crates.txt lists what they cite: each name is cited by the crate that
+declares it, which tools/homes.py sees to. A chain leads from a crate down to one below it.
 Ends with 1, and prints a line for each fault: crates.txt lists for a crate another one of the repository that no file of it
-cites; a crate hands on another that no crate cites by it; a count is above its number in tools/paths.txt. Else it prints nothing.
-  --all     prints a line for each crate, too: its paths, and what it lists; and the counts
+cites; the longest chain is above its number in tools/paths.txt. Else it prints nothing.
+  --all     prints a line for each crate, too: its longest chain, and what it lists; and the count
   --cited   prints crates.txt without the crates of the repository that aren't cited, and ends
   --write   lowers the numbers of tools/paths.txt to the counts; it raises none
 """
@@ -53,33 +51,14 @@ def cited(name):
     return words
 
 
-def handed(name):
-    """What a crate hands on, as the words by which another crate's files cite it."""
-    for part in ("specs", "proofs"):
-        file = f"{TOP}/crates/{name}/{part}/Lib.antt"
-        for it in re.findall(r"(?m)^pub use Rattle\.\S+ as ([a-z]\w*)$", read(file) if os.path.isfile(file) else ""):
-            yield it, (name, part, it)
-
-
-def by_others(name):
-    """The words by which a crate's files cite what others may hand on."""
-    for text in texts_of(name):
-        yield from re.findall(r"\bRattle\.(\w+)\.(specs|proofs)\.(\w+)", text)
-
-
 def counts(below):
-    """The numbers that may only fall, by their names in tools/paths.txt, and the paths from each crate."""
-
-    @functools.lru_cache(maxsize=None)
-    def paths(name):
-        return 1 + sum(map(paths, below[name]))
+    """The numbers that may only fall, by their names in tools/paths.txt, and the longest chain from each crate."""
 
     @functools.lru_cache(maxsize=None)
     def chain(name):
         return 1 + max(map(chain, below[name]), default=0)
 
-    each = {name: paths(name) for name in below}
-    return {"program": paths(PROGRAM), "all": sum(each.values()), "chain": chain(PROGRAM) - 1}, each
+    return {"chain": chain(PROGRAM) - 1}, {name: chain(name) for name in below}
 
 
 def without(text, idle):
@@ -103,15 +82,10 @@ def main(words):
     if words == ["--cited"]:
         print(*without(read(f"{TOP}/crates.txt"), idle), sep="\n")
         return 0
-    known = {name: set(by_others(name)) for name in listed}
-    for name in listed:
-        for it, words_of in handed(name):
-            if not any(words_of in words for other, words in known.items() if other != name):
-                faults.append(f"crates/{name}: hands on {it}, which no crate cites by it")
     found, each = counts({name: [it for it in names if it in listed] for name, names in listed.items()})
     if words == ["--all"]:
         for name in sorted(each, key=each.get):
-            print(f"{name}: {each[name]} paths, lists {' '.join(listed[name]) or 'nothing'}")
+            print(f"{name}: chain of {each[name]}, lists {' '.join(listed[name]) or 'nothing'}")
         print(", ".join(f"{name} {number}" for name, number in found.items()))
     text = read(NUMBERS)
     allowed = {name: int(number) for name, number in re.findall(r"(?m)^(\w+) (\d+)$", text)}
