@@ -43,12 +43,21 @@ class Case(unittest.TestCase):
         return path
 
     def words(self, *words):
-        return [sys.executable, "-B", os.path.join(TOOLS, "many"), *words, "--program", PROGRAM]
+        program = () if "--program" in words else ("--program", PROGRAM)
+        return [sys.executable, "-B", os.path.join(TOOLS, "many"), *words, *program]
 
     def run_tool(self, *words, given=b""):
         done = subprocess.run(self.words(*words), cwd=self.room, input=given, check=False,
                               stdout=subprocess.PIPE, stderr=subprocess.PIPE)
         return done.returncode, done.stdout.decode(), done.stderr.decode()
+
+    def lines_kept(self):
+        """How many whole lines the folder of answers has by now."""
+        count, folder = 0, os.path.join(self.room, "r")
+        for name in os.listdir(folder) if os.path.isdir(folder) else ():
+            with open(os.path.join(folder, name), "rb") as file:
+                count += file.read().count(b"\n")
+        return count
 
     def kept(self):
         """The lines of the folder of answers."""
@@ -115,22 +124,27 @@ class Case(unittest.TestCase):
         for number in range(400):
             self.made("t/%03d.fx" % number, TEXTS["a.fx"] + "# %d" % number)
         whole = self.run_tool("t")
+        # a program whose first list ends, and whose others wait until there is a folder `on`
+        text = "#!/bin/sh\ncd '%s'\n" \
+               "[ \"$1\" != batch ] || [ -d on ] || mkdir first 2> %s || exec sleep 600\n" \
+               "cd \"$OLDPWD\"\nexec '%s' \"$@\"\n" % (self.room, os.devnull, PROGRAM)
+        program = self.made("p", text)
+        os.chmod(program, 0o755)
+        words = self.words("t", "--jobs", "2", "--results", "r", "--program", program)
         how = {"cwd": self.room, "stdout": subprocess.PIPE, "stderr": subprocess.PIPE}
-        with subprocess.Popen(self.words("t", "--jobs", "2", "--results", "r"), **how) as process:
-            ends = time.time() + 60
-            while time.time() < ends and process.poll() is None:
-                if os.path.isdir(self.room + "/r") and os.listdir(self.room + "/r"):
-                    break
+        with subprocess.Popen(words, **how) as process:
+            # 400 scripts for two jobs: lists of 50
+            while self.lines_kept() < 50 and process.poll() is None:
                 time.sleep(0.01)
             process.send_signal(signal.SIGTERM)
             said = process.communicate()[1].decode()
         self.assertEqual(process.returncode, 143, said)
         self.assertIn("the same command goes on", said)
-        count = len(self.kept())
-        self.assertTrue(0 < count < 400, count)
-        found = self.run_tool("t", "--results", "r")
+        self.assertEqual(len(self.kept()), 50)
+        os.mkdir(os.path.join(self.room, "on"))
+        found = self.run_tool("t", "--results", "r", "--program", program)
         self.assertEqual(found[:2], whole[:2])
-        self.assertIn("%d answers were there before" % count, found[2])
+        self.assertIn("50 answers were there before", found[2])
         self.assertEqual(len(self.kept()), 400)
 
     def test_a_list_that_breaks_off(self):
