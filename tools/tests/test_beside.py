@@ -86,11 +86,13 @@ Results:
 
     def test_timed(self):
         """A run that takes too long ends, and its processor time is counted."""
-        busy = [sys.executable, "-c", "while True: pass"]
-        late = sides.timed(busy, 0.5)
+        late = sides.timed([sys.executable, "-c", "while True: pass"], 0.5)
         self.assertIsNone(late.status)
-        self.assertGreater(late.seconds, 0.02)
-        done = sides.timed([sys.executable, "-c", "import sys; print(5); sys.exit(3)"], 5)
+        text = "import time\nwhile time.process_time() < 0.2: pass"
+        busy = sides.timed([sys.executable, "-c", text], 600)
+        self.assertEqual(busy.status, 0)
+        self.assertGreaterEqual(busy.seconds, 0.2)
+        done = sides.timed([sys.executable, "-c", "import sys; print(5); sys.exit(3)"], 600)
         self.assertEqual((done.status, done.text), (3, "5\n"))
 
 
