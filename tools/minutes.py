@@ -17,7 +17,9 @@ TICKS = os.sysconf("SC_CLK_TCK")
 
 
 def processes():
-    """The processes of the prover: (number and start, kind, crate, processor seconds so far)."""
+    """The prover's processes: (number and start, folder, kind, crate, processor seconds so far).
+
+    The folder is the one that the process runs in, the kind one of KINDS."""
     for pid in filter(str.isdigit, os.listdir("/proc")):
         try:
             with open(f"/proc/{pid}/cmdline", "rb") as file:
@@ -26,13 +28,14 @@ def processes():
                 continue
             with open(f"/proc/{pid}/stat", encoding="utf-8") as file:
                 fields = file.read().rpartition(")")[2].split()
-            is_edit = os.path.basename(os.readlink(f"/proc/{pid}/cwd")).startswith("rt-edit")
+            folder = os.readlink(f"/proc/{pid}/cwd")
         except OSError:
             # it has ended meanwhile
             continue
+        is_edit = os.path.basename(folder).startswith("rt-edit")
         kind = "edits" if is_edit else "tests" if "--test" in words else "proofs"
         seconds = (int(fields[11]) + int(fields[12])) / TICKS
-        yield (pid, fields[19]), kind, words[words.index("--crate-name") + 1], seconds
+        yield (pid, fields[19]), folder, kind, words[words.index("--crate-name") + 1], seconds
 
 
 def main(words):
@@ -41,7 +44,7 @@ def main(words):
     seen = {}
     run = subprocess.Popen(words)
     while run.poll() is None:
-        for key, kind, crate, seconds in processes():
+        for key, _, kind, crate, seconds in processes():
             seen[key] = (crate, kind, seconds)
         time.sleep(0.5)
     minutes = collections.defaultdict(lambda: dict.fromkeys(KINDS, 0.0))
