@@ -1,15 +1,19 @@
 #!/usr/bin/env python3
-"""Refuses each allocation of whole runs of the built program in turn, and looks at what comes of it.
+"""Refuses each allocation of whole runs of the built program in turn, and looks at what comes of
+it.
 
-Use, in the repository:   python3 tools/allocations.py [PROGRAM]     (PROGRAM: the built one, crates/fx_main/out/fx_main)
+Use, in the repository:   python3 tools/allocations.py [PROGRAM]     (PROGRAM: the built one,
+crates/fx_main/out/fx_main)
 
-A run is done once as it is, and then once for each of its allocations, which alone is refused. Then the status is 8, the
-lines are a front of the run's, and the file that is written holds what it held or a front of what the run wrote; or else the run
-answers as it did, which a program may that needs no memory there. Prints a line for each run: how many allocations there are,
-how often each status came, and the first runs that ended in another way. Ends with 1 where there are any.
+A run is done once as it is, and then once for each of its allocations, which alone is refused. Then
+the status is 8, the lines are a front of the run's, and the file that is written holds what it held
+or a front of what the run wrote; or else the run answers as it did, which a program may that needs
+no memory there. Prints a line for each run: how many allocations there are, how often each status
+came, and the first runs that ended in another way. Ends with 1 where there are any.
 
-The program gets its memory from the C library, so a library that is loaded before it does the refusing. A C compiler `cc`
-makes it anew each time. `rt try --fail-alloc N` does the same to unproved sources, and compiles them for each N.
+The program gets its memory from the C library, so a library that is loaded before it does the
+refusing. A C compiler `cc` makes it anew each time. `rt try --fail-alloc N` does the same to
+unproved sources, and compiles them for each N.
 """
 import collections
 import os
@@ -52,7 +56,8 @@ RUNS = (
     "batch all.list --workers 1",
     "batch all.list --workers 4",
 )
-# Counts the calls for memory in the first bytes of the file COUNT, and refuses the call with the number in REFUSE.
+# Counts the calls for memory in the first bytes of the file COUNT, and refuses the call with the
+# number in REFUSE.
 REFUSES = r"""
 #define _GNU_SOURCE
 #include <dlfcn.h>
@@ -66,7 +71,8 @@ static atomic_long unshared, *calls = &unshared;
 static long refused;
 
 __attribute__((constructor)) static void begin(void) {
-    void *shared = mmap(NULL, sizeof *calls, PROT_READ | PROT_WRITE, MAP_SHARED, open(getenv("COUNT"), O_RDWR), 0);
+    void *shared = mmap(NULL, sizeof *calls, PROT_READ | PROT_WRITE, MAP_SHARED,
+                        open(getenv("COUNT"), O_RDWR), 0);
     if (shared == MAP_FAILED) abort();
     refused = atol(getenv("REFUSE"));
     calls = shared;
@@ -110,7 +116,8 @@ class Room:
         for name, text in FILES.items():
             self.write(name, text)
         self.write("refuses.c", REFUSES.encode())
-        subprocess.run(["cc", "-O1", "-shared", "-fPIC", "-o", self.library, f"{folder}/refuses.c", "-ldl"], check=True)
+        subprocess.run(["cc", "-O1", "-shared", "-fPIC", "-o", self.library, f"{folder}/refuses.c",
+                        "-ldl"], check=True)
         for name in ("product", "halved"):
             self.run(["prove", f"{name}.fx", "--cert", f"{name}.cert"])
 
@@ -123,17 +130,22 @@ class Room:
             return it.read()
 
     def run(self, words, refused=0):
-        """Runs the program; returns its status, what it printed, what the file that is written holds, and how many allocations there were."""
+        """Runs the program; returns its status, what it printed, what the file that is written
+        holds, and how many allocations there were."""
         self.write("new.cert", OLD)
         self.write("count", bytes(8))
-        env = {**os.environ, "LD_PRELOAD": self.library, "REFUSE": str(refused), "COUNT": f"{self.folder}/count"}
-        how = {"cwd": self.folder, "env": env, "stdin": subprocess.DEVNULL, "stdout": subprocess.PIPE, "timeout": 120, "check": False}
+        env = {**os.environ, "LD_PRELOAD": self.library, "REFUSE": str(refused),
+               "COUNT": f"{self.folder}/count"}
+        how = {"cwd": self.folder, "env": env, "stdin": subprocess.DEVNULL,
+               "stdout": subprocess.PIPE, "timeout": 120, "check": False}
         ran = subprocess.run([self.program, *words], **how)
-        return ran.returncode, ran.stdout, self.read("new.cert"), int.from_bytes(self.read("count"), "little")
+        count = int.from_bytes(self.read("count"), "little")
+        return ran.returncode, ran.stdout, self.read("new.cert"), count
 
 
 def is_well(whole, found):
-    """Whether what came of a refusal is the whole run's answer, or lack of memory with a front of it."""
+    """Whether what came of a refusal is the whole run's answer, or lack of memory with a front of
+    it."""
     if found[0] != NO_MEMORY:
         return found[:3] == whole[:3]
     return whole[1].startswith(found[1]) and (found[2] == OLD or whole[2].startswith(found[2]))
@@ -160,9 +172,12 @@ def main(words):
                     break
                 statuses[found[0]] += 1
                 if not is_well(whole, found):
-                    odd.append(f"allocation {number}: status {found[0]}, {found[1]!r}, a file of {len(found[2])} bytes")
-            told = ", ".join(f"status {status} {count} times" for status, count in sorted(statuses.items()))
-            print(f"{text}: status {whole[0]}, {whole[3]} allocations; one refused: {told or 'none'}", *odd[:5], sep="\n    ", flush=True)
+                    odd.append(f"allocation {number}: status {found[0]}, {found[1]!r}, a file of "
+                               f"{len(found[2])} bytes")
+            told = ", ".join(f"status {status} {count} times"
+                             for status, count in sorted(statuses.items()))
+            print(f"{text}: status {whole[0]}, {whole[3]} allocations; one refused: "
+                  f"{told or 'none'}", *odd[:5], sep="\n    ", flush=True)
             bad += len(odd)
     return 1 if bad else 0
 

@@ -3,11 +3,12 @@
 
 Use:   ./fixprove build
 
-The crates that the program stands on are proved side by side, as many as there are processors and memory for, each once
-those below it are done. Each has a line when it is: how many are left, and about how many minutes. To stop, press Ctrl-C:
-the same command goes on where it was, and what is done stands. What the toolchain says is in crates/fx_main/out/build.log.
-That the program is proved is recorded beside it, for `--version` (tools/about.py).
-Ends with 0 where the program is built, and with 70 where it isn't.
+The crates that the program stands on are proved side by side, as many as there are processors and
+memory for, each once those below it are done. Each has a line when it is: how many are left, and
+about how many minutes. To stop, press Ctrl-C: the same command goes on where it was, and what is
+done stands. What the toolchain says is in crates/fx_main/out/build.log. That the program is proved
+is recorded beside it, for `--version` (tools/about.py). Ends with 0 where the program is built, and
+with 70 where it isn't.
 """
 import functools
 import os
@@ -23,7 +24,8 @@ TOP = os.path.dirname(os.path.dirname(os.path.abspath(__file__)))
 PROGRAM = "fx_main"
 OUT = f"{TOP}/crates/{PROGRAM}/out"
 LOG = "crates/fx_main/out/build.log"
-# What an estimate begins with: the processor seconds that a line takes, and the lines for which that speaks once crates are done.
+# What an estimate begins with: the processor seconds that a line takes, and the lines for which
+# that speaks once crates are done.
 PER_LINE, BEGINS_WITH = 0.04, 5000
 # The memory that a crate's proof is given, in bytes: most take 2 GB at most, and few more.
 MEMORY = 3 << 30
@@ -75,7 +77,8 @@ class Work:
                 self.add(it)
 
     def span(self, names):
-        """How many lines one lane takes of these crates while the others take the rest: its share, or the longest chain."""
+        """How many lines one lane takes of these crates while the others take the rest: its share,
+        or the longest chain."""
 
         @functools.lru_cache(maxsize=None)
         def chain(name):
@@ -101,10 +104,13 @@ class Work:
 
 
 def prove(work, log):
-    """Proves the program, and before it all crates that it stands on; returns whether that went well."""
-    # (in the program's folder, this takes the program and the crates below it, those that no other waits for side by side)
+    """Proves the program, and before it all crates that it stands on; returns whether that went
+    well."""
+    # (in the program's folder, this takes the program and the crates below it, those that no other
+    # waits for side by side)
     words = ["rt", "all", "check", "--jobs", str(work.at_once)]
-    how = {"cwd": f"{TOP}/crates/{PROGRAM}", "stdin": subprocess.DEVNULL, "stdout": subprocess.PIPE, "stderr": subprocess.STDOUT}
+    how = {"cwd": f"{TOP}/crates/{PROGRAM}", "stdin": subprocess.DEVNULL, "stdout": subprocess.PIPE,
+           "stderr": subprocess.STDOUT}
     with subprocess.Popen(words, **how) as tool:
         try:
             for line in tool.stdout:
@@ -133,12 +139,15 @@ def main(words):
     for it in (signal.SIGTERM, signal.SIGHUP, signal.SIGINT):
         signal.signal(it, lambda number, _: sys.exit(128 + number))
     work = Work(lanes())
-    say(f"{len(work.left)} crates are to be proved and built, {work.minutes()} where none is; {work.at_once} at a time")
+    say(f"{len(work.left)} crates are to be proved and built, {work.minutes()} where none is; "
+        f"{work.at_once} at a time")
     os.makedirs(OUT, exist_ok=True)
     sources = about.sources()
     with open(f"{TOP}/{LOG}", "wb") as log:
-        how = {"cwd": f"{TOP}/crates/{PROGRAM}", "stdin": subprocess.DEVNULL, "stdout": log, "stderr": log}
-        if not prove(work, log) or subprocess.run(["rt", "run", "--", "gen", "1"], **how).returncode:
+        how = {"cwd": f"{TOP}/crates/{PROGRAM}", "stdin": subprocess.DEVNULL, "stdout": log,
+               "stderr": log}
+        if (not prove(work, log)
+                or subprocess.run(["rt", "run", "--", "gen", "1"], **how).returncode):
             say(f"the program is not built; {LOG} says why")
             return 70
     # ./fixprove runs it while no source is newer: an edit during this run is

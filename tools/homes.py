@@ -3,12 +3,14 @@
 
 Use, in the repository:   python3 tools/homes.py [--write | --check] [--keep FILE]
 
-Without --write it only counts; with --check it prints a line for each import that names another place than the home, or hands on,
-and ends with 1 where there is one. FILE is tools/surface.txt, where --keep isn't given and that is there. It changes imports in .rt and .antt files (`use`, `ghost use`, whole paths in terms and code), drops
-`pub use` lines that only hand on what another crate declares, but for those that FILE lists ('crate: Name Name ..', the public
-surface), writes each crate's cited crates into crates.txt, in the order of its lines, and changes the imports in edits. A module
-that hands on its own children's names (`Fraction` those of `Fraction.Core`) stays the home of these.
-Then: rattle fmt --write on the changed .rt files, which sorts and folds their imports.
+Without --write it only counts; with --check it prints a line for each import that names another
+place than the home, or hands on, and ends with 1 where there is one. FILE is tools/surface.txt,
+where --keep isn't given and that is there. It changes imports in .rt and .antt files (`use`, `ghost
+use`, whole paths in terms and code), drops `pub use` lines that only hand on what another crate
+declares, but for those that FILE lists ('crate: Name Name ..', the public surface), writes each
+crate's cited crates into crates.txt, in the order of its lines, and changes the imports in edits. A
+module that hands on its own children's names (`Fraction` those of `Fraction.Core`) stays the home
+of these. Then: rattle fmt --write on the changed .rt files, which sorts and folds their imports.
 """
 import collections
 import os
@@ -16,7 +18,9 @@ import re
 import sys
 
 sys.path.insert(0, os.path.dirname(os.path.abspath(__file__)))
-from antt_text import USE, GHOST, CODE_USE, Repository, entries, leaves, read, without_comments  # noqa: E402
+from antt_text import (  # noqa: E402
+    USE, GHOST, CODE_USE, Repository, entries, leaves, read, without_comments,
+)
 
 MOST = 100
 WHOLE = re.compile(r"\bRattle((?:\.[^\s(){}\[\],;.]+)+)")
@@ -39,7 +43,8 @@ class Homes:
         self.faults = []
 
     def rank(self, path, own):
-        """Where a module's imports stand: what isn't of Rattle, std and the kit, crates in their order, the own crate."""
+        """Where a module's imports stand: what isn't of Rattle, std and the kit, crates in their
+        order, the own crate."""
         if path[0] != "Rattle":
             return (0, 0)
         if path[1] not in self.repo.order:
@@ -55,7 +60,8 @@ class Homes:
                 home = self.repo.module_home(path, place)
                 self.counts["modules moved"] += home != path
                 if home != path:
-                    self.faults.append(f"{'.'.join(place)}: {'.'.join(path)} is at home as {'.'.join(home)}")
+                    self.faults.append(f"{'.'.join(place)}: {'.'.join(path)} is at home as "
+                                       f"{'.'.join(home)}")
                 key, value = (marks, home, alias or (home[-1] != path[-1] and path[-1]) or ""), None
                 if key not in groups:
                     groups[key] = None
@@ -68,7 +74,8 @@ class Homes:
                 self.counts["names"] += 1
                 self.counts["names moved"] += home[:len(path)] != path
                 if home[:len(path)] != path:
-                    self.faults.append(f"{'.'.join(place)}: {parts[-1]} of {'.'.join(path)} is at home in {'.'.join(home)}")
+                    self.faults.append(f"{'.'.join(place)}: {parts[-1]} of {'.'.join(path)} is at "
+                                       f"home in {'.'.join(home)}")
                 key = (marks, home, None)
                 if key not in groups:
                     groups[key] = []
@@ -90,7 +97,8 @@ class Homes:
 
     def handed_lines(self, module):
         """The `pub use` lines of a module that only hand on what isn't below it."""
-        return [m for m in USE.finditer(module.text) if "pub" in m.group(1) and not self.is_front(m, module)]
+        return [m for m in USE.finditer(module.text)
+                if "pub" in m.group(1) and not self.is_front(m, module)]
 
     def is_front(self, m, module):
         target = tuple(m.group(2).split("."))
@@ -128,7 +136,8 @@ class Homes:
                     self.counts["names no longer handed on"] += len(entries(names)) - len(used)
                     if not used:
                         continue
-                    names, marks = ", ".join(one + (f" as {other}" if other else "") for one, other in used), ""
+                    names, marks = ", ".join(one + (f" as {other}" if other else "")
+                                             for one, other in used), ""
             if "pub" in marks:
                 end()
                 found.append(line)
@@ -154,7 +163,8 @@ class Homes:
         return WHOLE.sub(home, line)
 
     def code(self, name, file):
-        """A file of code. Imports by `use` become one tree for each crate, as rattle fmt folds them."""
+        """A file of code. Imports by `use` become one tree for each crate, as rattle fmt folds
+        them."""
         text = read(file)
         place = ("Rattle", name, "src")
         is_root = file == f"{self.repo.top}/crates/{name}/src/lib.rt"
@@ -193,7 +203,8 @@ class Homes:
                 is_crate = path[0] == "crate" or path[0] in self.repo.listed[name]
                 home = self.repo.code_home(own) if is_crate else own
                 here = other or path[-1]
-                if marks.strip() == "pub" and is_root and path[0] in self.repo.listed[name] and path[0] in self.repo.listed:
+                if (marks.strip() == "pub" and is_root and path[0] in self.repo.listed[name]
+                        and path[0] in self.repo.listed):
                     if here in kept:
                         out.append((marks, home, here))
                     elif here in known and not marks_only(here, rest):
@@ -222,7 +233,8 @@ class Homes:
             for (mark, head), values in groups.items():
                 values = list(dict.fromkeys(values))
                 before = "::".join(head) + "::" if head else ""
-                for value in [values[0]] if len(values) == 1 else ["{" + ", ".join(values) + "}"] if before else values:
+                for value in ([values[0]] if len(values) == 1
+                              else ["{" + ", ".join(values) + "}"] if before else values):
                     texts.append(f"{indent}{mark}use {before}{value};")
             return "\n".join(texts) or "\0"
 
@@ -251,7 +263,8 @@ class Homes:
                 if file.startswith(f"{self.repo.top}/crates/{name}/"):
                     if file.endswith(".rt"):
                         modules.update(re.findall(r"(?m)^\s*(?:pub )?mod (\w+)", text))
-                    text = re.sub(r"//.*" if file.endswith(".rt") else r"(?m)(^|\s)--\s.*", "", text)
+                    text = re.sub(r"//.*" if file.endswith(".rt") else r"(?m)(^|\s)--\s.*", "",
+                                  text)
                     words.update(re.findall(r"\bRattle\.(\w+)", text))
                     words.update(re.findall(r"\b(\w+)::", text))
                     words.update(re.findall(r"(?m)^\s*(?:pub )?use (\w+);", text))
@@ -264,14 +277,16 @@ class Homes:
                 lines.append(line)
                 continue
             name = head.split()[0]
-            own = [it for it in self.repo.listed if it in known[name] and self.repo.order[it] < self.repo.order[name]]
+            own = [it for it in self.repo.listed
+                   if it in known[name] and self.repo.order[it] < self.repo.order[name]]
             kit = [it for it in names.split() if it not in self.repo.listed]
             lines.append(f"{head}:{''.join(f' {it}' for it in own + kit)}")
         return "\n".join(lines) + "\n"
 
 
 def operators(words):
-    """Names of operators by their signs: a word `≤ℚ` cites `◌≤ℚ◌`, and any sign may be part of a mixfix name."""
+    """Names of operators by their signs: a word `≤ℚ` cites `◌≤ℚ◌`, and any sign may be part of a
+    mixfix name."""
     found = set()
     for it in words:
         found |= {f"◌{it}◌", f"◌{it}", f"{it}◌", f"◌{it}◌]"}
@@ -295,10 +310,12 @@ def merged(text):
         if run:
             groups = collections.OrderedDict()
             for mark, head, tail in run:
-                groups.setdefault((mark, head), []).extend(it.strip() for it in tail.strip("{}").split(",") if it.strip())
+                groups.setdefault((mark, head), []).extend(
+                    it.strip() for it in tail.strip("{}").split(",") if it.strip())
             for (mark, head), names in groups.items():
                 names = list(dict.fromkeys(names))
-                found.append(f"{mark}use {head}{names[0]};" if len(names) == 1 else f"{mark}use {head}{{{', '.join(names)}}};")
+                found.append(f"{mark}use {head}{names[0]};" if len(names) == 1
+                             else f"{mark}use {head}{{{', '.join(names)}}};")
             continue
         found.append(lines[at])
         at += 1
@@ -338,7 +355,8 @@ def main(words):
         print(*homes.faults, sep="\n", end="\n" if homes.faults else "")
         return 1 if homes.faults else 0
     changed = {file for file in after if after[file] != before[file]}
-    print(f"{len(changed)} of {len(after)} files change; lines {sum(t.count(chr(10)) for t in before.values())} to "
+    print(f"{len(changed)} of {len(after)} files change; lines "
+          f"{sum(t.count(chr(10)) for t in before.values())} to "
           f"{sum(t.count(chr(10)) for t in after.values())}")
     print(*(f"{number:7} {what}" for what, number in homes.counts.most_common()), sep="\n")
     text = homes.crates_txt(after)
@@ -358,7 +376,8 @@ def main(words):
                 return "::".join(repo.code_home((m.group(1), m.group(2))))
             return m.group(0)
 
-        now = re.sub(r"(?m)^(?:old|new):.*$", lambda line: re.sub(r"(?<![\w:])(\w+)::(\w+)", item, line.group(0)), said)
+        now = re.sub(r"(?m)^(?:old|new):.*$",
+                     lambda line: re.sub(r"(?<![\w:])(\w+)::(\w+)", item, line.group(0)), said)
         if now != said:
             print(f"edit follows: {os.path.relpath(file, top)}")
             if "--write" in words:

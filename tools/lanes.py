@@ -1,16 +1,19 @@
 #!/usr/bin/env python3
-"""How many turns a tree takes by lanes of two lengths: its share of the boxes that are allowed, and twice that.
+"""How many turns a tree takes by lanes of two lengths: its share of the boxes that are allowed, and
+twice that.
 
     lanes.py [PROGRAM ..]
 
-Each worker takes a box in each turn, from its own lane's front or else from another's, and puts its pieces last into its own
-lane. A lane is put no more boxes than it has places; a worker that can't put one ends, and the caller does alone, a box a turn,
-what the workers left: up to the limit, where there are more boxes. Turns, boxes that the caller did, and boxes whose tables were
-kept for their pieces. Nothing of that is measured by the clock.
+Each worker takes a box in each turn, from its own lane's front or else from another's, and puts its
+pieces last into its own lane. A lane is put no more boxes than it has places; a worker that can't
+put one ends, and the caller does alone, a box a turn, what the workers left: up to the limit, where
+there are more boxes. Turns, boxes that the caller did, and boxes whose tables were kept for their
+pieces. Nothing of that is measured by the clock.
 
-Where programs are named, each runs the scripts below, whose trees lean to one side, in turn with the others: least wall clock and
-processor time of fifteen runs, and the greatest resident memory of three. Two programs that differ in the lanes' length alone
-come from two checkouts (`run` of `box_workers`).
+Where programs are named, each runs the scripts below, whose trees lean to one side, in turn with
+the others: least wall clock and processor time of fifteen runs, and the greatest resident memory of
+three. Two programs that differ in the lanes' length alone come from two checkouts (`run` of
+`box_workers`).
 """
 
 import os
@@ -36,7 +39,8 @@ POINTS = [f"1b-{i}" for i in range(1, 13)] + [f"3b-{i}" for i in range(2, 14)]
 
 def spine():
     """At each of many points boxes become ever narrower."""
-    ratios = "".join(f"r{i} = (2 * |x - {p}| + 1b-30) / (|x - {p}| + 1b-30);\n" for i, p in enumerate(POINTS))
+    ratios = "".join(f"r{i} = (2 * |x - {p}| + 1b-30) / (|x - {p}| + 1b-30);\n"
+                     for i, p in enumerate(POINTS))
     goals = " /\\ ".join(f"r{i} in [0.25,5]" for i in range(len(POINTS)))
     return f"{ratios}{{ x in [0,1] -> {goals} }}\nr0 $ x;\n"
 
@@ -97,7 +101,8 @@ def turns(pieces, workers, places, limit):
 
 
 def resident(words):
-    """The greatest resident memory of a run, in bytes: it is looked at while it waits to put its lines."""
+    """The greatest resident memory of a run, in bytes: it is looked at while it waits to put its
+    lines."""
     out, into = os.pipe()
     os.set_blocking(into, False)
     try:
@@ -122,12 +127,15 @@ def measure(programs):
                 file.write(text)
             for limit in (boxes, 8192, boxes // 4):
                 for workers in (2, 4, 16):
-                    words = ["prove", path, *options, "--boxes", str(limit), "--workers", str(workers)]
-                    done = [[times.run([program, *words]) for program in programs] for _ in range(RUNS)]
+                    words = ["prove", path, *options, "--boxes", str(limit), "--workers",
+                             str(workers)]
+                    done = [[times.run([program, *words]) for program in programs]
+                            for _ in range(RUNS)]
                     for k, program in enumerate(programs):
                         processor, wall = (min(turn[k][i] for turn in done) * 1000 for i in (0, 1))
                         most = max(resident([program, *words]) for _ in range(3))
-                        print(f"{name}, {boxes} boxes of {limit}, {workers} workers, {program}: {wall:.1f} ms, processor {processor:.1f} ms, {most / 1e6:.1f} MB")
+                        print(f"{name}, {boxes} boxes of {limit}, {workers} workers, {program}: "
+                              f"{wall:.1f} ms, processor {processor:.1f} ms, {most / 1e6:.1f} MB")
 
 
 def main():
@@ -136,8 +144,11 @@ def main():
         for limit in (boxes, 2 * boxes, boxes // 4):
             for workers in (2, 4, 16):
                 share = -(-limit // workers)
-                one, two = (turns(pieces, workers, places, limit) for places in (share, min(2 * share, limit)))
-                print(f"{name}, {boxes} boxes of {limit}, {workers} workers: {one[0]} turns ({one[1]} alone, {one[2]} tables); by twice the share {two[0]} ({two[1]}, {two[2]})")
+                one, two = (turns(pieces, workers, places, limit)
+                            for places in (share, min(2 * share, limit)))
+                print(f"{name}, {boxes} boxes of {limit}, {workers} workers: {one[0]} turns "
+                      f"({one[1]} alone, {one[2]} tables); by twice the share {two[0]} ({two[1]}, "
+                      f"{two[2]})")
 
 
 if __name__ == "__main__":

@@ -3,10 +3,11 @@
 
 Use, in the repository:   python3 tools/layers.py [--write]
 
-crates.txt has the crates by layer: a line `# name` begins one, the lowest stands first. A crate stands on crates of earlier
-lines alone. The picture has the layers from the top, each with its crates and the layers that they stand on.
-Ends with 1, and prints a line for each fault: a crate stands in no layer, or above one that it stands on; the picture isn't
-that of crates.txt. Else it prints nothing.
+crates.txt has the crates by layer: a line `# name` begins one, the lowest stands first. A crate
+stands on crates of earlier lines alone. The picture has the layers from the top, each with its
+crates and the layers that they stand on. Ends with 1, and prints a line for each fault: a crate
+stands in no layer, or above one that it stands on; the picture isn't that of crates.txt. Else it
+prints nothing.
   --write   puts the picture of crates.txt into docs/DESIGN.md
 """
 import os
@@ -24,7 +25,8 @@ def read(file):
 
 
 def layers():
-    """The layers' names, the lowest first, and of each crate, in the order of lines, its layer's number and what its line lists.
+    """The layers' names, the lowest first, and of each crate, in the order of lines, its layer's
+    number and what its line lists.
 
     The lines of comment before the first empty line speak of the whole file."""
     names, crates = [], {}
@@ -45,8 +47,10 @@ def picture(names, crates):
     yield "|---|---|---|---|"
     for number in range(len(names), 0, -1):
         inside = [name for name, (layer, _) in crates.items() if layer == number]
-        below = {crates[it][0] for name in inside for it in crates[name][1] if it in crates} - {number}
-        yield f"| {number} | {names[number - 1]} | {', '.join(f'`{it}`' for it in inside)} | {', '.join(map(str, sorted(below)))} |"
+        below = {crates[it][0]
+                 for name in inside for it in crates[name][1] if it in crates} - {number}
+        yield (f"| {number} | {names[number - 1]} | {', '.join(f'`{it}`' for it in inside)} | "
+               f"{', '.join(map(str, sorted(below)))} |")
 
 
 def main(words):
@@ -58,7 +62,8 @@ def main(words):
     for name, (layer, listed) in crates.items():
         if not layer:
             faults.append(f"crates.txt: {name} stands in no layer")
-        faults += [f"crates.txt: {name} stands on {it}, which comes behind it" for it in listed if it in crates and it not in before]
+        faults += [f"crates.txt: {name} stands on {it}, which comes behind it"
+                   for it in listed if it in crates and it not in before]
         before.add(name)
     text = read(DESIGN)
     wanted = "".join(f"{line}\n" for line in picture(names, crates))
@@ -69,7 +74,8 @@ def main(words):
         with open(DESIGN, "w", encoding="utf-8") as it:
             it.write(text[: found.start()] + wanted + text[found.end() :])
     elif found[0] != wanted:
-        faults.append("docs/DESIGN.md: its layers aren't those of crates.txt: python3 tools/layers.py --write puts them there")
+        faults.append("docs/DESIGN.md: its layers aren't those of crates.txt: python3 "
+                      "tools/layers.py --write puts them there")
     for it in faults:
         print(it)
     return 1 if faults else 0

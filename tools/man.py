@@ -144,7 +144,8 @@ def make(name, words, does):
     text = read(source) if os.path.exists(source) else skeleton(name, words, does)
     if BEGIN in text and END in text:
         front, _, rest = text.partition(BEGIN)
-        text = front + BEGIN + "\n" + options_of(on_the_path(printed)) + "\n" + END + rest.partition(END)[2]
+        text = (front + BEGIN + "\n" + options_of(on_the_path(printed)) + "\n" + END
+                + rest.partition(END)[2])
     write(source, text)
     done = subprocess.run(["pandoc", "-s", "-f", "markdown-smart", "-t", "man"], check=False,
                           input=text.encode(), stdout=subprocess.PIPE)

@@ -3,9 +3,10 @@
 
     memory.py PROGRAM [TIMES]
 
-PROGRAM is the program that ./fixprove built (crates/fx_main/out/fx_main). Runs `prove` on texts of 2^20 bytes of many forms, accepted
-and refused, and prints for each the greatest resident memory of the process, how many times the text that is, and what was answered.
-Ends with 1 where one took more than TIMES times its text (20 where none is named), else with 0.
+PROGRAM is the program that ./fixprove built (crates/fx_main/out/fx_main). Runs `prove` on texts of
+2^20 bytes of many forms, accepted and refused, and prints for each the greatest resident memory of
+the process, how many times the text that is, and what was answered. Ends with 1 where one took more
+than TIMES times its text (20 where none is named), else with 0.
 """
 
 import itertools
@@ -65,7 +66,8 @@ TEXTS = {
     "blanks": filled(b"", b" "),
     "bytes that are no text": filled(b"{ ", b"\xff"),
     "a script, then blanks": filled(b"{ x in [0,1] -> x + x in ? }", b" "),
-    "a script with deep operands": filled(b"{ x in [0,1] -> " + b"(" * 64 + b"x" + b")" * 64 + b" in ? } # ", b"x"),
+    "a script with deep operands": filled(b"{ x in [0,1] -> " + b"(" * 64 + b"x" + b")" * 64
+                                          + b" in ? } # ", b"x"),
 }
 
 
@@ -94,8 +96,9 @@ def greatest(child):
 def run(program, text):
     """Status, resident memory in bytes and the first line of a run of `prove` on the text.
 
-    What a process took can't be asked for when it has ended, and what its parent had counts as its own. So its lines go to a pipe that
-    is full: it sleeps when it is to put them, and is looked at then.
+    What a process took can't be asked for when it has ended, and what its parent had counts as its
+    own. So its lines go to a pipe that is full: it sleeps when it is to put them, and is looked at
+    then.
     """
     with tempfile.NamedTemporaryFile(suffix=".fx") as script:
         script.write(text)
@@ -123,7 +126,8 @@ def main():
     for name, text in TEXTS.items():
         status, memory, line = run(program, text)
         worst = max(worst, memory / len(text))
-        print(f"{name:28} {len(text):8} bytes {memory / 1e6:6.1f} MB {memory / len(text):6.1f} times  {status} {line[:60]}")
+        print(f"{name:28} {len(text):8} bytes {memory / 1e6:6.1f} MB {memory / len(text):6.1f} "
+              f"times  {status} {line[:60]}")
     print(f"at most {worst:.1f} times the text")
     return 1 if worst > most else 0
 

@@ -1,10 +1,14 @@
 #!/usr/bin/env python3
-"""Processor minutes of a run of the gate, crate by crate: of its proofs, of its tests' proofs, and of its edits.
+"""Processor minutes of a run of the gate, crate by crate: of its proofs, of its tests' proofs, and
+of its edits.
 
-Use, in the repository:   python3 tools/minutes.py COMMAND [WORD ..]      as in   python3 tools/minutes.py bash .ci/run
-The command runs as it would by itself. Meanwhile each process of the prover is looked at twice a second; what it did in
-its last half second is not seen. The table goes to standard error when the command ends; the exit status is the command's.
-Other runs of the prover on the machine at the same time are counted too.
+Use, in the repository:   python3 tools/minutes.py COMMAND [WORD ..]
+as in                     python3 tools/minutes.py bash .ci/run
+
+The command runs as it would by itself. Meanwhile each process of the prover is looked at twice a
+second; what it did in its last half second is not seen. The table goes to standard error when the
+command ends; the exit status is the command's. Other runs of the prover on the machine at the same
+time are counted too.
 """
 import collections
 import os
@@ -52,9 +56,11 @@ def main(words):
         minutes[crate][kind] += seconds / 60
     rows = sorted(minutes.items(), key=lambda row: -sum(row[1].values()))
     rows.append(("all", {kind: sum(row[kind] for _, row in rows) for kind in KINDS}))
-    print(f"{'crate':20}" + "".join(f"{kind:>8}" for kind in KINDS) + f"{'all':>8}", file=sys.stderr)
+    print(f"{'crate':20}" + "".join(f"{kind:>8}" for kind in KINDS) + f"{'all':>8}",
+          file=sys.stderr)
     for crate, row in rows:
-        print(f"{crate:20}" + "".join(f"{row[kind]:8.1f}" for kind in KINDS) + f"{sum(row.values()):8.1f}", file=sys.stderr)
+        print(f"{crate:20}" + "".join(f"{row[kind]:8.1f}" for kind in KINDS)
+              + f"{sum(row.values()):8.1f}", file=sys.stderr)
     return run.returncode
 
 

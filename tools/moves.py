@@ -1,16 +1,19 @@
 #!/usr/bin/env python3
-"""Moves out of specs/ what no clause and no definition rests on: lemmas with their proofs, into public modules of proofs/.
+"""Moves out of specs/ what no clause and no definition rests on: lemmas with their proofs, into
+public modules of proofs/.
 
-Use, in the repository:   python3 tools/moves.py [--write | --check | --held] [--unfoldable] [--examples] [--only CRATE ..]
+Use, in the repository:   python3 tools/moves.py [--write | --check | --held] [--unfoldable]
+[--examples] [--only CRATE ..]
 
-With --check it prints a line for each declaration of specs/ that no clause rests on, and ends with 1 where there is one; --held says
-of what stays why, where that isn't a clause.
+With --check it prints a line for each declaration of specs/ that no clause rests on, and ends with
+1 where there is one; --held says of what stays why, where that isn't a clause.
 
-The statement is what `ghost use` items of code cite, and all that these definitions cite in turn, proofs in records and in
-definitions included. The rest of a file of specs/ goes to the file of that name in proofs/ (with 'Laws' at its end, where that is
-taken), and each import follows. Stays: a lemma that unfolds a definition which isn't `unfoldable` (with --unfoldable that
-definition is marked, and the lemma goes); a module `Examples` (but with --examples); a block `module _ (..)` of which a part stays.
-A private definition that a lemma cites from there is marked `pub`.
+The statement is what `ghost use` items of code cite, and all that these definitions cite in turn,
+proofs in records and in definitions included. The rest of a file of specs/ goes to the file of that
+name in proofs/ (with 'Laws' at its end, where that is taken), and each import follows. Stays: a
+lemma that unfolds a definition which isn't `unfoldable` (with --unfoldable that definition is
+marked, and the lemma goes); a module `Examples` (but with --examples); a block `module _ (..)` of
+which a part stays. A private definition that a lemma cites from there is marked `pub`.
 """
 import collections
 import os
@@ -44,13 +47,16 @@ def roots_of(graph):
                         continue
                     if m.group(3) is None:
                         home, alias = repo.module_home(path, place), m.group(4) or path[-1]
-                        for word in set(re.findall(rf"(?<![\w.]){re.escape(alias)}\.([^\s(){{}}\[\],;.]+)", text)):
+                        for word in set(re.findall(
+                                rf"(?<![\w.]){re.escape(alias)}\.([^\s(){{}}\[\],;.]+)", text)):
                             nodes.append(graph.node(home, word))
                     else:
                         for one, other in entries(m.group(3)):
                             parts = one.split(".")
-                            nodes.append(graph.node(*repo.item_home(path + tuple(parts[:-1]), parts[-1], place)))
-                for m in re.finditer(r"\bRattle((?:\.[^\s(){}\[\],;.]+)+)", re.sub(r"//.*|.*ghost use.*", "", text)):
+                            nodes.append(graph.node(*repo.item_home(path + tuple(parts[:-1]),
+                                                                    parts[-1], place)))
+                for m in re.finditer(r"\bRattle((?:\.[^\s(){}\[\],;.]+)+)",
+                                     re.sub(r"//.*|.*ghost use.*", "", text)):
                     path = ("Rattle", *m.group(1)[1:].split("."))
                     if path[1] in repo.listed and len(path) > 4:
                         nodes.append(graph.node(*repo.item_home(path[:-1], path[-1], path[:-1])))
@@ -84,7 +90,8 @@ class Moves:
                 continue
             self.keep.add(key)
             self.why[key] = because
-            todo += [(it, f"cited by {key[1]}") for it in self.graph.cites(key) if it not in self.keep]
+            todo += [(it, f"cited by {key[1]}")
+                     for it in self.graph.cites(key) if it not in self.keep]
 
     def stays(self, one):
         return one.key in self.keep or any((one.key[0], it) in self.keep for it in one.names)
@@ -92,7 +99,8 @@ class Moves:
     def shut(self, one):
         """Definitions that a lemma unfolds, which can't be unfolded from elsewhere."""
         scope, found = self.graph.scope(one.key[0]), set()
-        lines = re.findall(r"(?m)^\s*unfolding (.*)$", one.text) + re.findall(r"\bunfold ([^=\n]*?) in\b", one.text)
+        lines = (re.findall(r"(?m)^\s*unfolding (.*)$", one.text)
+                 + re.findall(r"\bunfold ([^=\n]*?) in\b", one.text))
         for word in " ".join(lines).split():
             if word not in scope.of:
                 continue
@@ -121,11 +129,13 @@ class Moves:
                 if self.stays(one):
                     if key not in self.keep:
                         # a block of which a part stays
-                        self.hold([key, *((key[0], it) for it in one.names)], "in a block of which a part stays")
+                        self.hold([key, *((key[0], it) for it in one.names)],
+                                  "in a block of which a part stays")
                         more = True
                     continue
                 shut = self.shut(one)
-                if shut and not (self.unfoldable and all(self.graph.units[it[0]].kind == "term" for it in shut)):
+                if shut and not (self.unfoldable
+                                 and all(self.graph.units[it[0]].kind == "term" for it in shut)):
                     self.hold([key], "unfolds " + ", ".join(sorted(it[1] for it in shut)))
                     more = True
         for key, one in self.units.items():
@@ -141,12 +151,14 @@ class Moves:
         for key in self.open:
             for node in self.graph.cites(key):
                 it = self.graph.units.get(node) if node[0] != "Code" else None
-                if it is not None and node[0][2] == "specs" and not is_pub(it) and it.kind not in ("module", "mutual"):
+                if (it is not None and node[0][2] == "specs" and not is_pub(it)
+                        and it.kind not in ("module", "mutual")):
                     self.marked.setdefault(it.key, set()).add(key)
 
     # ---- where things go
     def plan(self):
-        """For each module of specs/ of which something moves: the module of proofs/ that takes it."""
+        """For each module of specs/ of which something moves: the module of proofs/ that takes
+        it."""
         self.to, self.whole = {}, set()
         by = collections.defaultdict(list)
         for key, one in self.units.items():
@@ -167,20 +179,24 @@ class Moves:
                 for m in USE.finditer(module.text):
                     if "pub" in m.group(1) and m.group(3) is not None:
                         for one, other in entries(m.group(3)):
-                            if self.moved((path, other or one.split(".")[-1])) and path not in self.to:
+                            if (self.moved((path, other or one.split(".")[-1]))
+                                    and path not in self.to):
                                 self.to[path] = self.place_for(path)
 
     def goes_whole(self, path):
         module = self.repo.modules.get(path)
-        return (module is not None and path in self.to and not any(self.stays(it) for it in self.by[path])
+        return (module is not None and path in self.to
+                and not any(self.stays(it) for it in self.by[path])
                 and all(self.goes_whole((*path, it)) for it in module.children))
 
     def place_for(self, path):
         inner = list(path[3:])
         if (path[0], path[1], "proofs", *inner) in self.repo.modules:
             inner[-1] += "Laws"
-        # rattle makes a module of proofs/ for each module and item of code, and refuses names that differ in case alone; and some more
-        if inner[0].lower() in self.code_names(path[1]) or inner[0] in MADE and inner[0] + "Laws" not in inner:
+        # rattle makes a module of proofs/ for each module and item of code, and refuses names that
+        # differ in case alone; and some more
+        if (inner[0].lower() in self.code_names(path[1])
+                or inner[0] in MADE and inner[0] + "Laws" not in inner):
             inner[0] += "Laws"
         return ("Rattle", path[1], "proofs", *inner)
 
@@ -189,7 +205,9 @@ class Moves:
         folder = f"{self.graph.top}/crates/{crate}/src"
         found = {os.path.splitext(it)[0].lower() for it in os.listdir(folder)}
         root = f"{folder}/lib.rt" if os.path.isfile(f"{folder}/lib.rt") else f"{folder}/main.rt"
-        return found | {it.lower() for it in re.findall(r"(?m)^(?:pub(?:\(\w+\))? )?(?:mod|fn|struct|enum|trait|const|static|type) (\w+)", read(root))}
+        items = re.findall(r"(?m)^(?:pub(?:\(\w+\))? )?"
+                           r"(?:mod|fn|struct|enum|trait|const|static|type) (\w+)", read(root))
+        return found | {it.lower() for it in items}
 
     def moved(self, home):
         """Whether an item of a module of specs/ moves; through a module that hands it on, too."""
@@ -263,7 +281,8 @@ class Moves:
         for path, alias in sorted(groups, key=lambda it: homes.rank(it[0], place[1])):
             names = groups[path, alias]
             word = "use " + ".".join(path)
-            lines += folded(word, names) if names is not None else [word + (f" as {alias}" if alias else "")]
+            lines += (folded(word, names) if names is not None
+                      else [word + (f" as {alias}" if alias else "")])
         return lines
 
     def segments(self, module):
@@ -275,7 +294,8 @@ class Moves:
             for at in range(one.comment, one.first):
                 if lines[at].startswith("-- ----"):
                     found.append(("title", lines[at]))
-            text = [it for it in lines[one.comment : one.first] if not it.startswith("-- ----")] + lines[one.first : one.last]
+            text = [it for it in lines[one.comment : one.first]
+                    if not it.startswith("-- ----")] + lines[one.first : one.last]
             found.append(("unit", one, text))
         return found
 
@@ -312,9 +332,12 @@ class Moves:
                 if one.kind in ("data", "record"):
                     it = "pub " + it if "pub" in marks else it
                 else:
-                    m = re.match(r"^((?:pattern\s+)?)((?:unfoldable\s+)?)((?:abbrev\s+)?)((?:pub\s+)?)", it)
+                    m = re.match(r"^((?:pattern\s+)?)((?:unfoldable\s+)?)((?:abbrev\s+)?)"
+                                 r"((?:pub\s+)?)", it)
                     rest = it[m.end() :]
-                    it = (m.group(1) + ("unfoldable " if "unfoldable" in marks or m.group(2) else "") + m.group(3)
+                    it = (m.group(1)
+                          + ("unfoldable " if "unfoldable" in marks or m.group(2) else "")
+                          + m.group(3)
                           + ("pub " if "pub" in marks or m.group(4) else "") + rest)
                 done = True
             found.append(it)
@@ -327,7 +350,9 @@ class Moves:
         def test(one):
             if one.kind in NO_UNIT:
                 words = one.name.partition('> ')[2]
-                names = [name for name in module.declared if name not in ("",) and any(p in words.split() or p in words for p in pieces(name)) and "◌" in name]
+                names = [name for name in module.declared if name not in ("",)
+                         and any(p in words.split() or p in words for p in pieces(name))
+                         and "◌" in name]
                 homes = [self.moved((module.path, name)) for name in names]
                 return (any(homes) if moved else not homes or not all(homes))
             it = self.graph.units.get((module.path, one.name))
@@ -351,11 +376,13 @@ class Moves:
             own = []
             for name, one in module.declared.items():
                 it = self.graph.units.get((path, one.name))
-                if it is not None and it.kind not in NO_UNIT and self.stays(it) and is_used(name, words, body):
+                if (it is not None and it.kind not in NO_UNIT and self.stays(it)
+                        and is_used(name, words, body)):
                     own.append((path, name, None))
             for name, one in module.constructors.items():
                 it = self.graph.units.get((path, one.name))
-                if it is not None and self.stays(it) and is_data(it, name) and is_used(name, words, body) and name not in module.declared:
+                if (it is not None and self.stays(it) and is_data(it, name)
+                        and is_used(name, words, body) and name not in module.declared):
                     own.append((path, name, None))
             fronts = []
             for m in USE.finditer(module.text):
@@ -366,7 +393,8 @@ class Moves:
                         here = other or one.split(".")[-1]
                         if self.moved((path, here)):
                             home, name = self.new_home((self.repo.module_home(target, path), one))
-                            groups.setdefault(home, []).append(name + (f" as {other}" if other else ""))
+                            groups.setdefault(home, []).append(
+                                name + (f" as {other}" if other else ""))
                     for home, names in groups.items():
                         fronts += folded(m.group(1) + "use " + ".".join(home), names)
             after[place] = (head, self.header(rows + own, place), fronts, body)
@@ -378,7 +406,8 @@ class Moves:
             if path in self.whole:
                 files[module.file] = None
                 continue
-            if path in self.to or path[2] == "specs" and any(k[0] == path for k in list(self.marked) + list(self.open)):
+            if path in self.to or path[2] == "specs" and any(
+                    k[0] == path for k in list(self.marked) + list(self.open)):
                 body = self.part(module, self.takes(module, False))
                 head = re.match(r"(?:--.*\n)*", module.text).group(0)
                 pubs = []
@@ -387,13 +416,16 @@ class Moves:
                         if m.group(3) is None:
                             pubs.append(m.group(0))
                             continue
-                        names = [one + (f" as {other}" if other else "") for one, other in entries(m.group(3))
+                        names = [one + (f" as {other}" if other else "")
+                                 for one, other in entries(m.group(3))
                                  if not self.moved((path, other or one.split(".")[-1]))]
                         if names:
                             pubs += folded(m.group(1) + "use " + m.group(2), names)
-                kids = [f"{'pub ' if pub else ''}mod {name}" for name, pub in module.children.items() if (*path, name) not in self.whole]
+                kids = [f"{'pub ' if pub else ''}mod {name}"
+                        for name, pub in module.children.items() if (*path, name) not in self.whole]
                 lines = self.header(self.rows(module, body, False), path)
-                text = head + "\n".join([*kids, *pubs, *lines]) + ("\n\n" + body if body else "") + "\n"
+                text = (head + "\n".join([*kids, *pubs, *lines])
+                        + ("\n\n" + body if body else "") + "\n")
                 files[module.file] = re.sub(r"\n{3,}", "\n\n", text)
                 continue
             files[module.file] = self.followed(module)
@@ -403,7 +435,8 @@ class Moves:
                 for file in names:
                     if file.endswith(".rt"):
                         text = read(f"{at}/{file}")
-                        now = re.sub(r"\b(\w+)::specs((?:::[^\s(){}\[\],;:]+)+)", lambda it: self.listed_path(name, it), text)
+                        now = re.sub(r"\b(\w+)::specs((?:::[^\s(){}\[\],;:]+)+)",
+                                     lambda it: self.listed_path(name, it), text)
                         if now != text:
                             files[f"{at}/{file}"] = now
         # new files, and the lines that declare them
@@ -416,11 +449,13 @@ class Moves:
                 file = self.file_of(parent)
                 if file not in files:
                     files[file] = [f"-- What is below `{'.'.join(parent[3:])}`.\n", [], [], [], ""]
-        new = [place for place in after] + [place[:cut] for place in after for cut in range(4, len(place))]
+        new = [place for place in after] + [place[:cut]
+                                            for place in after for cut in range(4, len(place))]
         for place in dict.fromkeys(sorted(new, key=lambda it: (it[1], self.position(it)))):
             line = f"pub mod {place[-1]}"
             if len(place) == 4:
-                file = self.repo.modules[place[:3]].file if place[:3] in self.repo.modules else f"{top}/crates/{place[1]}/proofs/Lib.antt"
+                file = (self.repo.modules[place[:3]].file if place[:3] in self.repo.modules
+                        else f"{top}/crates/{place[1]}/proofs/Lib.antt")
                 text = files.get(file) or (read(file) if os.path.isfile(file) else "")
                 if line not in text.split("\n"):
                     files[file] = text.rstrip("\n") + ("\n" if text.strip() else "") + line + "\n"
@@ -431,7 +466,8 @@ class Moves:
         for file, it in list(files.items()):
             if isinstance(it, list):
                 head, kids, fronts, uses, body = it
-                files[file] = head + "\n".join([*kids, *fronts, *uses]) + ("\n\n" + body if body else "") + "\n"
+                files[file] = (head + "\n".join([*kids, *fronts, *uses])
+                               + ("\n\n" + body if body else "") + "\n")
         return files
 
     def listed_path(self, crate, m):
@@ -450,7 +486,8 @@ class Moves:
         lib = self.repo.modules.get((place[0], place[1], "specs"))
         names = list(lib.children) if lib else []
         base = re.sub(r"Laws$", "", place[3])
-        return (names.index(place[3]) if place[3] in names else names.index(base) if base in names else 999, place)
+        return (names.index(place[3]) if place[3] in names
+                else names.index(base) if base in names else 999, place)
 
     def file_of(self, place):
         return f"{self.graph.top}/crates/{place[1]}/{place[2]}/{'/'.join(place[3:])}.antt"
@@ -469,7 +506,8 @@ class Moves:
                 target = tuple(m.group(2).split("."))
                 if m.group(3) is None:
                     rows.append((target, None, m.group(4)))
-                    home = self.repo.module_home(target, path) if target[0] == "Rattle" and target[1] in self.repo.listed else None
+                    home = (self.repo.module_home(target, path)
+                            if target[0] == "Rattle" and target[1] in self.repo.listed else None)
                     changed |= home in self.whole
                     continue
                 for one, other in entries(m.group(3)):
@@ -512,7 +550,8 @@ PAGE = re.compile(r"(?:\bcrates/)?(?:\b([a-z_0-9]+)/)?specs/((?:[A-Z]\w*/)*[A-Z]
 
 
 def pages(moves, top):
-    """Pages that name files of specs/: each with its text after the moves, and what a hand has to look at."""
+    """Pages that name files of specs/: each with its text after the moves, and what a hand has to
+    look at."""
     walks = [(top, [], os.listdir(top))]
     for folder in ("crates", "docs", "edits", "examples", "tools"):
         walks += os.walk(f"{top}/{folder}")
@@ -529,7 +568,8 @@ def pages(moves, top):
                 crate = m.group(1) or (inside and inside.group(1))
                 path = ("Rattle", crate, "specs", *m.group(2).split("/"))
                 if path in moves.whole:
-                    return m.group(0).replace(f"specs/{m.group(2)}", "proofs/" + "/".join(moves.to[path][3:]))
+                    return m.group(0).replace(f"specs/{m.group(2)}",
+                                              "proofs/" + "/".join(moves.to[path][3:]))
                 if path in moves.to:
                     look.append(m.group(0))
                 return m.group(0)
@@ -538,13 +578,15 @@ def pages(moves, top):
 
 
 def is_pub(one):
-    return "pub" in one.marks or bool(re.match(r"(?:\S+ )*?pub\b", one.text.split("\n")[0])) or one.kind in ("module", "mutual")
+    return ("pub" in one.marks or bool(re.match(r"(?:\S+ )*?pub\b", one.text.split("\n")[0]))
+            or one.kind in ("module", "mutual"))
 
 
 def is_data(one, name):
     if one.kind == "data":
         return True
-    return one.kind in ("mutual", "module") and any(name in it.constructors and it.kind == "data" for it in one.inner)
+    return one.kind in ("mutual", "module") and any(
+        name in it.constructors and it.kind == "data" for it in one.inner)
 
 
 def is_used(here, words, text):
@@ -563,25 +605,32 @@ def main(words):
     moves = Moves(graph, "--unfoldable" in words, "--examples" in words, set(only))
     units = moves.units.values()
     if "--check" in words:
-        idle = [f"{it.module.file}:{it.first + 1}: no clause rests on {it.name}" for it in units if not moves.stays(it)]
+        idle = [f"{it.module.file}:{it.first + 1}: no clause rests on {it.name}"
+                for it in units if not moves.stays(it)]
         print(*idle, sep="\n", end="\n" if idle else "")
         return 1 if idle else 0
     files = moves.texts()
     lines = lambda ones: sum(it.last - it.comment for it in ones)
     gone = [it for it in units if not moves.stays(it)]
-    print(f"{len(gone)} declarations move, {lines(gone)} lines with comments; {len(units) - len(gone)} stay, "
+    print(f"{len(gone)} declarations move, {lines(gone)} lines with comments; "
+          f"{len(units) - len(gone)} stay, "
           f"{lines(it for it in units if moves.stays(it))} lines")
-    print(f"{len(moves.whole)} files move whole, {len(moves.to) - len(moves.whole)} are split or get a front in proofs/")
-    print(f"{len(moves.open)} definitions become unfoldable, {len(moves.marked)} private names become pub")
-    changed = [file for file, text in files.items() if text is None or not os.path.isfile(file) or read(file) != text]
+    print(f"{len(moves.whole)} files move whole, {len(moves.to) - len(moves.whole)} are split or "
+          "get a front in proofs/")
+    print(f"{len(moves.open)} definitions become unfoldable, {len(moves.marked)} private names "
+          "become pub")
+    changed = [file for file, text in files.items()
+               if text is None or not os.path.isfile(file) or read(file) != text]
     print(f"{len(changed)} files change")
     sys.stdout.flush()
     for why in ("an example", "unfolds", "in a block"):
-        held = [it for it in units if moves.stays(it) and (moves.why.get(it.key) or "").startswith(why)]
+        held = [it for it in units
+                if moves.stays(it) and (moves.why.get(it.key) or "").startswith(why)]
         print(f"stays, {why}: {len(held)} declarations, {lines(held)} lines")
     if "--held" in words:
         for it in units:
-            if moves.stays(it) and (moves.why.get(it.key) or "").startswith(("unfolds", "in a block")):
+            if (moves.stays(it)
+                    and (moves.why.get(it.key) or "").startswith(("unfolds", "in a block"))):
                 print("   ", ".".join(it.key[0][1:]), it.key[1], "--", moves.why[it.key])
     for file in edits_of(top):
         said = read(file)
@@ -590,7 +639,9 @@ def main(words):
             print("edit of a file that isn't code:", os.path.relpath(file, top), target.group(1))
     for file, before, after, look in pages(moves, top):
         if before != after or look:
-            print(f"page {os.path.relpath(file, top)}: {sum(a != b for a, b in zip(before.split(chr(10)), after.split(chr(10))))} lines follow; "
+            print(f"page {os.path.relpath(file, top)}: "
+                  f"{sum(a != b for a, b in zip(before.split(chr(10)), after.split(chr(10))))} "
+                  "lines follow; "
                   f"to look at by hand: {' '.join(dict.fromkeys(look)) or 'nothing'}")
         if before != after and "--write" in words:
             with open(file, "w", encoding="utf-8") as it:

@@ -1,12 +1,14 @@
 #!/usr/bin/env python3
 """Tries the commands that pages show, and compares what they print.
 
-Use, in any folder:   python3 tools/pages.py PROGRAM PAGE ..     as in   python3 tools/pages.py crates/fx_main/out/fx_main README.md
+Use, in any folder:   python3 tools/pages.py PROGRAM PAGE ..
+as in                 python3 tools/pages.py crates/fx_main/out/fx_main README.md
 
-A command is a line of a code block that begins with `$ `; the block's lines from there to the next command are what it prints. The
-commands of a page run one after the other in one bash, in a folder of their own that shows the repository, with PROGRAM as ./fixprove.
-So what they write is gone afterwards. Ends with 1, and prints what differs, where some command prints other lines than its page
-says, or a page has no command. Else it prints nothing.
+A command is a line of a code block that begins with `$ `; the block's lines from there to the next
+command are what it prints. The commands of a page run one after the other in one bash, in a folder
+of their own that shows the repository, with PROGRAM as ./fixprove. So what they write is gone
+afterwards. Ends with 1, and prints what differs, where some command prints other lines than its
+page says, or a page has no command. Else it prints nothing.
 """
 import os
 import shutil
@@ -65,12 +67,15 @@ def make_folder(folder, program):
 
 
 def printed(every, folder):
-    """What each command prints, by one bash that runs them all. Each finds the status of the one before in `$?`."""
+    """What each command prints, by one bash that runs them all. Each finds the status of the one
+    before in `$?`."""
     script = ["exec 2>&1", "export LC_ALL=C"]
     for at, command in enumerate(every):
         script += [f"(exit $status); {command}", "status=$?", f"echo '{MARK % at}'"]
-    how = {"cwd": folder, "stdin": subprocess.DEVNULL, "stdout": subprocess.PIPE, "stderr": subprocess.STDOUT}
-    text = subprocess.run(["bash", "-c", "\n".join(script)], check=False, **how).stdout.decode(errors="replace")
+    how = {"cwd": folder, "stdin": subprocess.DEVNULL, "stdout": subprocess.PIPE,
+           "stderr": subprocess.STDOUT}
+    text = subprocess.run(["bash", "-c", "\n".join(script)], check=False,
+                          **how).stdout.decode(errors="replace")
     found = []
     for at in range(len(every)):
         part, mark, text = text.partition((MARK % at) + "\n")

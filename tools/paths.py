@@ -3,10 +3,11 @@
 
 Use, in the repository:   python3 tools/paths.py [--all | --cited | --write]
 
-A crate's files cite another by `Rattle.NAME` or `NAME::`, and crates.txt lists what they cite: each name is cited by the crate that
-declares it, which tools/homes.py sees to. A chain leads from a crate down to one below it.
-Ends with 1, and prints a line for each fault: crates.txt lists for a crate another one of the repository that no file of it
-cites; the longest chain is above its number in tools/paths.txt. Else it prints nothing.
+A crate's files cite another by `Rattle.NAME` or `NAME::`, and crates.txt lists what they cite: each
+name is cited by the crate that declares it, which tools/homes.py sees to. A chain leads from a
+crate down to one below it. Ends with 1, and prints a line for each fault: crates.txt lists for a
+crate another one of the repository that no file of it cites; the longest chain is above its number
+in tools/paths.txt. Else it prints nothing.
   --all     prints a line for each crate, too: its longest chain, and what it lists; and the count
   --cited   prints crates.txt without the crates of the repository that aren't cited, and ends
   --write   lowers the numbers of tools/paths.txt to the counts; it raises none
@@ -28,12 +29,14 @@ def read(file):
 
 def crates():
     """What each line of crates.txt lists, by the crate's name, in the order of the lines."""
-    rows = (line.partition("#")[0].partition(":") for line in read(f"{TOP}/crates.txt").splitlines())
+    rows = (line.partition("#")[0].partition(":")
+            for line in read(f"{TOP}/crates.txt").splitlines())
     return {head.split()[0]: names.split() for head, colon, names in rows if colon}
 
 
 def texts_of(name):
-    """The texts of a crate's files, without comments, which cite nothing. Edits aren't part of a crate."""
+    """The texts of a crate's files, without comments, which cite nothing. Edits aren't part of a
+    crate."""
     for part in ("src", "specs", "proofs"):
         for at, _, files in os.walk(f"{TOP}/crates/{name}/{part}"):
             for file in files:
@@ -52,7 +55,8 @@ def cited(name):
 
 
 def counts(below):
-    """The numbers that may only fall, by their names in tools/paths.txt, and the longest chain from each crate."""
+    """The numbers that may only fall, by their names in tools/paths.txt, and the longest chain from
+    each crate."""
 
     @functools.lru_cache(maxsize=None)
     def chain(name):
@@ -66,7 +70,8 @@ def without(text, idle):
     for line in text.splitlines():
         head, colon, names = line.partition("#")[0].partition(":")
         left_out = idle[head.split()[0]] if colon else []
-        yield f"{head}:{''.join(f' {it}' for it in names.split() if it not in left_out)}" if left_out else line
+        yield (f"{head}:{''.join(f' {it}' for it in names.split() if it not in left_out)}"
+               if left_out else line)
 
 
 def main(words):
@@ -78,11 +83,13 @@ def main(words):
     for name, names in listed.items():
         known = cited(name)
         idle[name] = [it for it in names if it in listed and it not in known]
-    faults = [f"crates.txt: {name} lists {it}, which no file of it cites" for name, names in idle.items() for it in names]
+    faults = [f"crates.txt: {name} lists {it}, which no file of it cites"
+              for name, names in idle.items() for it in names]
     if words == ["--cited"]:
         print(*without(read(f"{TOP}/crates.txt"), idle), sep="\n")
         return 0
-    found, each = counts({name: [it for it in names if it in listed] for name, names in listed.items()})
+    found, each = counts({name: [it for it in names if it in listed]
+                          for name, names in listed.items()})
     if words == ["--all"]:
         for name in sorted(each, key=each.get):
             print(f"{name}: chain of {each[name]}, lists {' '.join(listed[name]) or 'nothing'}")
@@ -91,11 +98,13 @@ def main(words):
     allowed = {name: int(number) for name, number in re.findall(r"(?m)^(\w+) (\d+)$", text)}
     for name, number in found.items():
         if name not in allowed or number > allowed[name]:
-            faults.append(f"crates.txt: '{name}' is {number}, and tools/paths.txt allows {allowed.get(name, 'no number')}")
+            faults.append(f"crates.txt: '{name}' is {number}, and tools/paths.txt allows "
+                          f"{allowed.get(name, 'no number')}")
         elif number < allowed[name] and words == ["--write"]:
             text = re.sub(rf"(?m)^{name} \d+$", f"{name} {number}", text)
         elif number < allowed[name]:
-            print(f"'{name}' fell from {allowed[name]} to {number}: python3 tools/paths.py --write notes that", file=sys.stderr)
+            print(f"'{name}' fell from {allowed[name]} to {number}: python3 tools/paths.py --write "
+                  "notes that", file=sys.stderr)
     if words == ["--write"]:
         with open(NUMBERS, "w", encoding="utf-8") as it:
             it.write(text)

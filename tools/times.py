@@ -3,10 +3,11 @@
 
     times.py PROGRAM [RUNS]
 
-PROGRAM is the program that ./fixprove built (crates/fx_main/out/fx_main). Runs it RUNS times (9 where none is named) on each script below for each number
-of workers, and prints the least processor time and the least wall clock, start of the program included. Runs with `--cert` say how long the
-certificate is, and how long `check` takes. A loaded machine gives other times. (Memory can't be told so: what this program has would count,
-too; `tools/memory.py` looks at a run before it ends.)
+PROGRAM is the program that ./fixprove built (crates/fx_main/out/fx_main). Runs it RUNS times (9
+where none is named) on each script below for each number of workers, and prints the least processor
+time and the least wall clock, start of the program included. Runs with `--cert` say how long the
+certificate is, and how long `check` takes. A loaded machine gives other times. (Memory can't be
+told so: what this program has would count, too; `tools/memory.py` looks at a run before it ends.)
 """
 
 import os
@@ -20,13 +21,16 @@ def form(degree):
     text = ""
     for i in range(degree, -1, -1):
         number = f"{(37 * i + 11) % 64}b-6"
-        text = number if i == degree else f"{text} * x + {number}" if i + 1 == degree else f"({text}) * x + {number}"
+        text = (number if i == degree
+                else f"{text} * x + {number}" if i + 1 == degree else f"({text}) * x + {number}")
     return text
 
 
 def made(degree):
-    """A polynomial whose operations are rounded, against exact arithmetic: the script of `gen` of this degree."""
-    return f"@q = fixed<-12,dn>;\ny q= {form(degree)};\nMy = {form(degree)};\n{{ x in [0,1] -> y - My in ? }}\n$ x in 64;\n"
+    """A polynomial whose operations are rounded, against exact arithmetic: the script of `gen` of
+    this degree."""
+    return (f"@q = fixed<-12,dn>;\ny q= {form(degree)};\nMy = {form(degree)};\n"
+            "{ x in [0,1] -> y - My in ? }\n$ x in 64;\n")
 
 
 CUTS = """@q = fixed<-16,ne>;
@@ -45,7 +49,8 @@ HALVES = """r = x * (1 - x) + y * (1 - y);
 r $ x, y;
 """
 
-# The upper half of each box that is left open is settled at once, and of the lower the same holds again.
+# The upper half of each box that is left open is settled at once, and of the lower the same holds
+# again.
 TREE = f"""@q = fixed<-24,ne>;
 r = (2 * x + 1b-30) / (x + 1b-30);
 y q= {form(12)};
@@ -54,14 +59,18 @@ My = {form(12)};
 r $ x;
 """
 
-# The script of `gen 12` where its variable lies in one of the sixteenths of its range, each of which is a case.
-CASES = made(12).replace("x in [0,1]", " \\/ ".join(f"x in [{k}b-4,{k + 1}b-4]" for k in range(16))).replace("x in 64;", "x in 4;")
+# The script of `gen 12` where its variable lies in one of the sixteenths of its range, each of
+# which is a case.
+CASES = made(12).replace(
+    "x in [0,1]", " \\/ ".join(f"x in [{k}b-4,{k + 1}b-4]" for k in range(16))
+).replace("x in 64;", "x in 4;")
 
 SCRIPTS = [
     ("gen 12, 65 boxes", made(12), (1, 2, 4), ["--rounds", "64"]),
     ("16 cases of it, 80 boxes", CASES, (1, 2, 4), ["--rounds", "64"]),
     ("three variables that are cut, 4369 boxes", CUTS, (1, 2, 4, 8), ["--boxes", "8192"]),
-    ("two variables that are halved, 4727 boxes", HALVES, (1, 2, 4), ["--boxes", "8192", "--depth", "32"]),
+    ("two variables that are halved, 4727 boxes", HALVES, (1, 2, 4),
+     ["--boxes", "8192", "--depth", "32"]),
     ("two boxes on each level, 59 boxes", TREE, (1, 2, 4), ["--rounds", "64", "--depth", "32"]),
 ]
 
@@ -91,7 +100,9 @@ def measured(name, words, runs):
     answers = {(status, text) for _, _, status, text in done}
     processor, wall = min(d[0] for d in done), min(d[1] for d in done)
     print(f"{name:52} {processor * 1000:8.1f} {wall * 1000:8.1f}  "
-          + " ".join(f"status {status}, {text.strip().splitlines()[-1][:60] if text.strip() else ''}" for status, text in answers))
+          + " ".join(f"status {status}, "
+                     f"{text.strip().splitlines()[-1][:60] if text.strip() else ''}"
+                     for status, text in answers))
 
 
 def main(words):
@@ -105,11 +116,14 @@ def main(words):
             with open(path, "w", encoding="utf-8") as file:
                 file.write(text)
             for count in workers:
-                measured(f"{name}, {count} worker" + "s" * (count > 1), [program, "prove", path, "--workers", str(count)] + options, runs)
+                measured(f"{name}, {count} worker" + "s" * (count > 1),
+                         [program, "prove", path, "--workers", str(count)] + options, runs)
             cert = os.path.join(folder, "proof.cert")
-            measured(f"{name}, 1 worker, --cert", [program, "prove", path, "--workers", "1", "--cert", cert] + options, runs)
+            measured(f"{name}, 1 worker, --cert",
+                     [program, "prove", path, "--workers", "1", "--cert", cert] + options, runs)
             if os.path.exists(cert):
-                measured(f"{name}, check of {os.path.getsize(cert)} bytes", [program, "check", path, cert], runs)
+                measured(f"{name}, check of {os.path.getsize(cert)} bytes",
+                         [program, "check", path, cert], runs)
                 os.remove(cert)
         names = [os.path.join(folder, f"{i}.fx") for i in range(len(LISTED))]
         for path, text in zip(names, LISTED):
@@ -119,7 +133,8 @@ def main(words):
         with open(listed, "w", encoding="utf-8") as file:
             file.write("".join(f"{path}\n" for path in names))
         for count in (1, 2, 4):
-            measured(f"batch of {len(names)} scripts, {count} worker" + "s" * (count > 1), [program, "batch", listed, "--boxes", "512", "--workers", str(count)], runs)
+            measured(f"batch of {len(names)} scripts, {count} worker" + "s" * (count > 1),
+                     [program, "batch", listed, "--boxes", "512", "--workers", str(count)], runs)
 
 
 if __name__ == "__main__":

@@ -1,10 +1,11 @@
 #!/usr/bin/env python3
-"""Runs the program's sources unproved, on the words given. ./fixprove does so where no proved program is built.
+"""Runs the program's sources unproved, on the words given. ./fixprove does so where no proved
+program is built.
 
 Use:   python3 tools/trial.py [WORD ..]     as in   python3 tools/trial.py prove SCRIPT
 
-The toolchain's `rt try` compiles them with checks, a minute or two each time, since it keeps nothing. Prints what the
-program prints and ends with its status, or with 70 where it has none.
+The toolchain's `rt try` compiles them with checks, a minute or two each time, since it keeps
+nothing. Prints what the program prints and ends with its status, or with 70 where it has none.
 """
 import contextlib
 import os
@@ -29,16 +30,19 @@ def is_text(word):
 
 
 def hand_in(words, folder):
-    """Copies the files that words name to the folder. Returns the words with the copies' names, and these names by the user's words.
+    """Copies the files that words name to the folder. Returns the words with the copies' names, and
+    these names by the user's words.
 
-    `rt try` shows a program only files below its own folder, and hands in those of the crate's folder by itself. So each word
-    that may be a file's gets a name of the trial's own, but for numbers, which may be an option's value."""
+    `rt try` shows a program only files below its own folder, and hands in those of the crate's
+    folder by itself. So each word that may be a file's gets a name of the trial's own, but for
+    numbers, which may be an option's value."""
     new, names = words[:1], {}
     for at, word in enumerate(words[1:], 1):
         is_option = word.startswith("-") and word != "-" and "--" not in words[1:at]
         if word and is_text(word) and not is_option and word not in names:
             names[word] = word if word.isdigit() else f"file-{at}"
-            # what can't be read isn't there for the program either, which says so; nor does it read a pipe
+            # what can't be read isn't there for the program either, which says so; nor does it read
+            # a pipe
             if os.path.isfile(word):
                 with contextlib.suppress(OSError):
                     shutil.copyfile(word, f"{folder}/{names[word]}")
@@ -47,11 +51,13 @@ def hand_in(words, folder):
 
 
 def attempt(words, folder):
-    """Runs `rt try` on these words and the folder's files; returns what the program printed, and what rt said."""
+    """Runs `rt try` on these words and the folder's files; returns what the program printed, and
+    what rt said."""
     command = ["rt", "try", "--steps", "1", "--seconds", "900000"]
     for name in os.listdir(folder):
         command += ["--data", f"{name}={folder}/{name}"]
-    how = {"cwd": CRATE, "stdin": subprocess.DEVNULL, "stdout": subprocess.PIPE, "stderr": subprocess.PIPE}
+    how = {"cwd": CRATE, "stdin": subprocess.DEVNULL, "stdout": subprocess.PIPE,
+           "stderr": subprocess.PIPE}
     with subprocess.Popen([*command, "--", *words], **how) as tool:
         try:
             return tool.communicate()
@@ -61,16 +67,20 @@ def attempt(words, folder):
 
 def main(words):
     options = words[: words.index("--")] if "--" in words else words
-    is_certified = words[:1] == ["prove"] and any(it.partition("=")[0] == "--cert" for it in options)
+    is_certified = (words[:1] == ["prove"]
+                    and any(it.partition("=")[0] == "--cert" for it in options))
     if is_certified or words[:1] in (["upgrade"], ["fix"], ["trim"]):
         what = "--cert" if is_certified else words[0]
-        say(f"{what} writes a file, which only the proved program does: ./fixprove build proves and builds it")
+        say(f"{what} writes a file, which only the proved program does: ./fixprove build proves "
+            "and builds it")
         return CANNOT_RUN
     if words[:1] == ["batch"]:
         # its list names files, which would have to be handed in under their own names
-        say("batch reads the files that its list names, which only the proved program does: ./fixprove build proves and builds it")
+        say("batch reads the files that its list names, which only the proved program does: "
+            "./fixprove build proves and builds it")
         return CANNOT_RUN
-    say("this runs the program's sources unproved: a minute or two, and far longer for a large script; ./fixprove build proves and builds the program")
+    say("this runs the program's sources unproved: a minute or two, and far longer for a large "
+        "script; ./fixprove build proves and builds the program")
     for it in (signal.SIGTERM, signal.SIGHUP, signal.SIGINT):
         signal.signal(it, lambda number, _: sys.exit(128 + number))
     with tempfile.TemporaryDirectory(prefix="fixprove-") as folder:

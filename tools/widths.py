@@ -3,7 +3,8 @@
 
 Use, in the repository:   python3 tools/widths.py [--all | --write]
 
-Ends with 1, and prints a line for each fault, where a count is above its number in tools/widths.txt. Else it prints nothing.
+Ends with 1, and prints a line for each fault, where a count is above its number in
+tools/widths.txt. Else it prints nothing.
   --all     prints a line for each crate that has such lines, too, and the counts
   --write   lowers the numbers of tools/widths.txt to the counts; it raises none
 """
@@ -45,11 +46,13 @@ def main(words):
     faults = []
     for part, number in found.items():
         if number > allowed.get(part, 0):
-            faults.append(f"{part}: {number} lines past {MOST} columns, and tools/widths.txt allows {allowed.get(part, 'no number')}")
+            faults.append(f"{part}: {number} lines past {MOST} columns, and tools/widths.txt "
+                          f"allows {allowed.get(part, 'no number')}")
         elif number < allowed[part] and words == ["--write"]:
             text = re.sub(rf"(?m)^{part} \d+$", f"{part} {number}", text)
         elif number < allowed[part]:
-            print(f"'{part}' fell from {allowed[part]} to {number}: python3 tools/widths.py --write notes that", file=sys.stderr)
+            print(f"'{part}' fell from {allowed[part]} to {number}: python3 tools/widths.py "
+                  "--write notes that", file=sys.stderr)
     if words == ["--write"]:
         with open(NUMBERS, "w", encoding="utf-8") as it:
             it.write(text)

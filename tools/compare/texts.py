@@ -9,26 +9,35 @@ from fractions import Fraction
 
 NAMES = ["x", "y", "z", "a", "b1", "My", "dn", "FIX", "ne", "q", "rnd", "_t", "float1", "inn"]
 DIRECTIONS = ["zr", "aw", "dn", "up", "od", "ne", "no", "nz", "na", "nd", "nu"]
-LITERALS = ["0", "1", "2", "0.5", "1b-1", "0x1.8p1", "2.5e1", "1e8", "3", "10", "00", "0x0", "7b512", "1e-30",
-            "1.00", "0.1e-29", "0x1.8p-508"]
+LITERALS = ["0", "1", "2", "0.5", "1b-1", "0x1.8p1", "2.5e1", "1e8", "3", "10", "00", "0x0",
+            "7b512", "1e-30", "1.00", "0.1e-29", "0x1.8p-508"]
 # Values next to one another, and to -1 with a minus.
-NEAR = ["0.1", "0x0.1999999999999999999999999p0", "0x0.199999999999999999999999ap0", "1b-100", "1e-30", "1b-99",
-        "0.3", "0.30000000000000000000000000001", "0.9999999999999999", "0.999999999999999999999999999999", "1.0000001",
-        "999999999999999999999999999999b512", "1b512", "9" * 30 + "e8", "0.25", "1b-2", "0.75", "3b-2", "0.4999999999"]
-PAST = ["1e9", "1e-31", "1b513", "1b-513", "0x1p513", "1" * 31, "0" * 31 + "b1", "0x" + "f" * 26, "0.1e-30",
+NEAR = ["0.1", "0x0.1999999999999999999999999p0", "0x0.199999999999999999999999ap0", "1b-100",
+        "1e-30", "1b-99",
+        "0.3", "0.30000000000000000000000000001", "0.9999999999999999",
+        "0.999999999999999999999999999999", "1.0000001",
+        "999999999999999999999999999999b512", "1b512", "9" * 30 + "e8", "0.25", "1b-2", "0.75",
+        "3b-2", "0.4999999999"]
+PAST = ["1e9", "1e-31", "1b513", "1b-513", "0x1p513", "1" * 31, "0" * 31 + "b1", "0x" + "f" * 26,
+        "0.1e-30",
         "1." + "0" * 31, "1e99999999999999999999999", "0x1.8p-509", "0e9"]
-FINE = ["0" * 40 + "1", "1." + "0" * 29, "0x" + "0" * 9 + "f" * 25, "9" * 30, "1" * 30 + "b0", "1e08", "1b+0512"]
+FINE = ["0" * 40 + "1", "1." + "0" * 29, "0x" + "0" * 9 + "f" * 25, "9" * 30, "1" * 30 + "b0",
+        "1e08", "1b+0512"]
 WORDS = NAMES + DIRECTIONS + LITERALS + PAST[:4] + [
-    "in", "not", "fixed", "int", "fma", "float", "sqrt", "{", "}", "(", ")", "[", "]", ",", ";", "=", "+", "-", "*",
+    "in", "not", "fixed", "int", "fma", "float", "sqrt", "{", "}", "(", ")", "[", "]", ",", ";",
+    "=", "+", "-", "*",
     "/", "|", "<", ">", "?", "$", "~", "@", "<=", ">=", "<>", "->", "-/", "/\\", "\\/"]
 BAD = ["!", "1.", "1e", "0x", "12x", "\\", ".", "&", "\u00e9", "1b", "3e+"]
-NUMBERS = ["0", "1", "2", "3", "7", "10", "0.1", "0.5", "1.5", "3.14", "1e-9", "1b-4", "3b2", "0x1.8p1",
+NUMBERS = ["0", "1", "2", "3", "7", "10", "0.1", "0.5", "1.5", "3.14", "1e-9", "1b-4", "3b2",
+           "0x1.8p1",
            "99999999999999999999", "1b512", "1b-512", "123456789.987654321", "0." + "3" * 30,
            "1152921504606846975", "1152921504606846977"]
 SMALL = ["0", "1", "2", "0.5", "0.25", "3", "1.5", "1b-3", "0.1"]
 # What damages put into scripts, and into certificates.
-TOKENS = [b"!", b"(", b")", b"|", b"-", b" ", b"?", b"$", b"~", b"@", b"->", b"-/", b"/\\", b"\\/", b"<>", b"in",
-          b"not", b"fma", b"fixed", b"int", b"sqrt", b"0", b"1e9", b"1b513", b"x", b"{", b"}", b"[", b"]", b",",
+TOKENS = [b"!", b"(", b")", b"|", b"-", b" ", b"?", b"$", b"~", b"@", b"->", b"-/", b"/\\", b"\\/",
+          b"<>", b"in",
+          b"not", b"fma", b"fixed", b"int", b"sqrt", b"0", b"1e9", b"1b513", b"x", b"{", b"}", b"[",
+          b"]", b",",
           b";", b"=", b"#", b"\xff", b"\xc3\xa9", b"\x00", b"\n"]
 BYTES = [bytes([k]) for k in (0, 1, 2, 3, 4, 5, 6, 7, 8, 80, 100, 101, 102, 127, 128, 129, 255)]
 BYTES += [b"\x80" * 9 + b"\x01", b"\xff" * 9, b"\xff" * 10, b"\x80" * 12]
@@ -39,7 +48,8 @@ def value(text):
     if text.startswith("0x"):
         body, _, power = text[2:].partition("p")
         whole, _, fraction = body.partition(".")
-        return Fraction(int(whole + fraction, 16), 16 ** len(fraction)) * Fraction(2) ** int(power or 0)
+        return (Fraction(int(whole + fraction, 16), 16 ** len(fraction))
+                * Fraction(2) ** int(power or 0))
     if "b" in text:
         digits, _, power = text.partition("b")
         return int(digits) * Fraction(2) ** int(power)
@@ -175,7 +185,8 @@ class GrammarMaker(Maker):
         return self.expr(1) + ["in"] + r
 
     def node(self):
-        """A name in parentheses: mostly that of a variable, or of a definition that may stand for one."""
+        """A name in parentheses: mostly that of a variable, or of a definition that may stand for
+        one."""
         name = self.pick(self.values) if self.values and self.maybe(0.4) else self.variable()
         depth = self.rng.randint(0, 2) if self.maybe(0.4) else 0
         if name not in self.values:
@@ -213,7 +224,8 @@ class GrammarMaker(Maker):
                 for i in range(self.rng.randint(1, 3)):
                     out += [","] if i else []
                     out += self.expr(1)
-                    out += ["<>", "0"] if self.maybe(0.5) else [self.pick(["<", "<=", ">", ">="])] + self.bound()
+                    out += (["<>", "0"] if self.maybe(0.5)
+                            else [self.pick(["<", "<=", ">", ">="])] + self.bound())
                 out += ["}"]
             return out + [";"]
         if k < 0.5:
@@ -273,7 +285,8 @@ class GrammarMaker(Maker):
         many = {0: 253, 1: 125, 2: 62, 3: 0, 4: 0, 5: 0, 6: 0, 7: 0}[k] + self.rng.randint(0, 5)
         if k == 0:
             for i in range(many):
-                out += ["@", "o%d" % i, "=", "int", "<", "dn", ">", ";"] if i % 3 == 0 else ["v%d" % i, "=", "1", ";"]
+                out += (["@", "o%d" % i, "=", "int", "<", "dn", ">", ";"] if i % 3 == 0
+                        else ["v%d" % i, "=", "1", ";"])
         out += ["{"]
         if k == 1:
             for i in range(many):
@@ -282,7 +295,8 @@ class GrammarMaker(Maker):
         elif k == 3:
             out += ["x"] + ["+", "x", "*", "-", "x"] * 150
             more = self.rng.randint(0, 70)
-            out += ["-", "y", "/", "fma", "(", "1", ",", "x", ",", "|", "y", "|", ")"] * 1 + ["+", "z%d" % more]
+            out += (["-", "y", "/", "fma", "(", "1", ",", "x", ",", "|", "y", "|", ")"] * 1
+                    + ["+", "z%d" % more])
             for i in range(self.rng.randint(0, 90)):
                 out += ["+", self.pick(["x", "1", "z%d" % i, "fma", "int<dn>"])]
                 if out[-1] in ("fma",):
@@ -291,7 +305,8 @@ class GrammarMaker(Maker):
                     out += ["(", "x", ")"]
             out += ["in", "?", "}"]
         elif k == 7:
-            some = [[64], [65], [8, 8], [4, 16], [8, 9], [2, 2, 2, 2, 2, 2], [3, 21], [3, 22], [64, 2]]
+            some = [[64], [65], [8, 8], [4, 16], [8, 9], [2, 2, 2, 2, 2, 2], [3, 21], [3, 22],
+                    [64, 2]]
             for sizes in self.pick(some):
                 for i in range(sizes):
                     out += ["\\/"] * (i > 0) + ["x", "in", "[", str(i), ",", str(i + 1), "]"]
@@ -354,13 +369,15 @@ class GrammarMaker(Maker):
             if i:
                 touching = out[-1:].isalnum() or out[-1:] in "_." or out[-1:] in "<>-/\\"
                 if touching or self.maybe(0.3):
-                    out += self.pick([" ", " ", "\n", "\t", "  ", " # a note\n"]) if self.maybe(0.2) else " "
+                    out += (self.pick([" ", " ", "\n", "\t", "  ", " # a note\n"])
+                            if self.maybe(0.2) else " ")
             out += w
         data = out.encode("utf-8")
         k = self.rng.random()
         if k < 0.02:
             at = self.rng.randrange(len(data) + 1)
-            data = data[:at] + self.pick([b"\xff", b"\xc3", b"\xe2\x82", b"\x80", b"\xc0\x80"]) + data[at:]
+            some = self.pick([b"\xff", b"\xc3", b"\xe2\x82", b"\x80", b"\xc0\x80"])
+            data = data[:at] + some + data[at:]
         elif k < 0.06 and data:
             data = data[:self.rng.randrange(len(data))]
         return data
@@ -408,7 +425,8 @@ class ScriptMaker(Maker):
     def operator(self):
         if self.maybe(0.2):
             return "int<%s>" % self.pick(DIRECTIONS)
-        return "fixed<%d,%s>" % (self.pick([-15, -12, -10, -8, -4, -2, 0, 1, 3]), self.pick(DIRECTIONS))
+        return "fixed<%d,%s>" % (self.pick([-15, -12, -10, -8, -4, -2, 0, 1, 3]),
+                                 self.pick(DIRECTIONS))
 
     def expr(self, depth):
         k = self.rng.random()
@@ -457,7 +475,8 @@ class ScriptMaker(Maker):
     def goal(self):
         k = self.rng.random()
         if self.rounded and k < 0.4:
-            return "%s %s %s in ?" % (self.rounded[-1][0], self.pick(["-", "-/"]), self.rounded[-1][1])
+            return "%s %s %s in ?" % (self.rounded[-1][0], self.pick(["-", "-/"]),
+                                      self.rounded[-1][1])
         of = self.expr(self.rng.randint(0, 3))
         if k < 0.5:
             return "%s -/ %s in ?" % (of, self.expr(1))
@@ -470,7 +489,8 @@ class ScriptMaker(Maker):
         if k < 0.3:
             need = ""
             if self.maybe(0.3):
-                need = " { %s %s }" % (self.pick(self.names), self.pick(["<> 0", "> 0", "<= 3", ">= -1", "< 2"]))
+                need = " { %s %s }" % (self.pick(self.names),
+                                       self.pick(["<> 0", "> 0", "<= 3", ">= -1", "< 2"]))
             return " %s -> %s%s;" % (self.expr(1), self.expr(1), need)
         if k < 0.45:
             return " %s ~ %s;" % (self.pick(self.names), self.pick(self.names))
@@ -493,15 +513,18 @@ class ScriptMaker(Maker):
         hyps = []
         for n in self.variables:
             if self.maybe(0.9):
-                hyps.append("%s in [%s,%s]" % ((n,) + tuple(self.bounds())) if self.maybe(0.8) else self.claim(n))
+                hyps.append("%s in [%s,%s]" % ((n,) + tuple(self.bounds())) if self.maybe(0.8)
+                            else self.claim(n))
         for _ in range(self.pick([0, 0, 0, 1])):
             hyps.append(self.claim(self.expr(1)))
         self.rng.shuffle(hyps)
         goals = [self.goal() for _ in range(self.pick([1, 1, 2, 3]))]
         out += "{ "
         if hyps:
-            joints = self.pick([[" /\\ "], ["/\\"], [" -> "], [" /\\ ", " \\/ ", " -> "], [" \\/ ", "\\/", " /\\ "]])
-            out += "".join(self.side(h) + self.pick(joints) for h in hyps[:-1]) + self.side(hyps[-1]) + " -> "
+            joints = self.pick([[" /\\ "], ["/\\"], [" -> "], [" /\\ ", " \\/ ", " -> "],
+                                [" \\/ ", "\\/", " /\\ "]])
+            out += ("".join(self.side(h) + self.pick(joints) for h in hyps[:-1])
+                    + self.side(hyps[-1]) + " -> ")
         out += " /\\ ".join(goals) + " }"
         for _ in range(self.pick([0, 0, 1, 1, 2])):
             out += self.hint(goals)
@@ -543,7 +566,9 @@ def damaged(rng, data, words=TOKENS):
             end = min(len(data), to + to - at)
             data = data[:at] + data[to:end] + data[at:to] + data[end:]
         elif way == 6:
-            data = data[:at] if rng.random() < 0.3 else data[:at] + bytes([rng.randrange(256)]) + data[at + 1:]
+            data = (data[:at] if rng.random() < 0.3
+                    else data[:at] + bytes([rng.randrange(256)]) + data[at + 1:])
         else:
-            data = data[:at] + bytes(rng.randrange(256) for _ in range(rng.randint(1, 4))) + data[at:]
+            data = (data[:at] + bytes(rng.randrange(256) for _ in range(rng.randint(1, 4)))
+                    + data[at:])
     return data

@@ -140,7 +140,8 @@ class Pictures(unittest.TestCase):
         shared.write_text(other, "{ x in [0,1] -> x in ? }")
         out = self.path("out.svg")
         for words in ([script, cert], [script, cert, "--svg", script],
-                      [script, cert, "--svg", cert], [other, cert, "--svg", out], [script, "no", "--svg", out],
+                      [script, cert, "--svg", cert], [other, cert, "--svg", out],
+                      [script, "no", "--svg", out],
                       [script, cert, "--svg", out, "--goal", "3"], [script, cert, "--what"],
                       [script, cert, "--svg", self.path("no/where.svg")],
                       [script, cert, "--report", self.path("out.gif")]):
