@@ -108,7 +108,11 @@ class Path:
     def range(self, n):
         if n.op == "lit":
             return n.const, n.const
-        return self.known.get(id(n)) or self.inputs[n.text][1:3]
+        if id(n) not in self.known:
+            if n.op == "var":
+                return self.inputs[n.text][1:3]
+            self.after(n, self.kinds[id(n)])    # a step of ways that were joined
+        return self.known[id(n)]
 
     def after(self, n, kind):
         """Notes a step's range."""

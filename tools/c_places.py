@@ -247,7 +247,7 @@ class Places(Path):
             raise Refused(e, "the index %d is past %s" % (at, says(e)))
         key = found.thing, found.sel
         if key[0].outer and key[0].size is None and key[0].sort == "array":
-            key[0].cell(key[1], alone and key[1] == 0)
+            key[0].cell(key[1], alone and key[1] == 0 and key[0].name != "result")
         return key
 
     def place_type(self, e):

@@ -129,7 +129,10 @@ class Report:
         if out.range is None:
             found = ["  %s: no range is known" % out.key]
         else:
-            found = ["  " + self.line("%s in" % out.key, out.range, scale)]
+            live = len(self.work.live)
+            more = " (on %d of %d paths; on the others it isn't written)" % (out.paths, live) \
+                if out.paths < live else ""
+            found = ["  " + self.line("%s in" % out.key, out.range, scale) + more]
         if not out.rounds:
             return found
         inner = ""
@@ -197,7 +200,7 @@ class Report:
     @staticmethod
     def row_of(o):
         return {"name": o.key, "range": interval_of(o.range), "error": interval_of(o.error),
-                "twin": o.twin if o.rounds else None,
+                "twin": o.twin if o.rounds else None, "paths": o.paths,
                 "reached": None if o.reached is None else [str(x) for x in o.reached]}
 
     def write_json(self, name):

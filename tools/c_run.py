@@ -115,6 +115,9 @@ class Expressions(Path):
             thing = self.look(e.expr.name, e)
             if thing.sort == "array" and not thing.outer and thing.size is not None:
                 return thing.size * thing.kind[0] // 8
+        elif isinstance(e.expr, C.StructRef) and self.field(e.expr)[1] is not None:
+            kind, size = self.field(e.expr)
+            return size * kind[0] // 8
         else:
             return self.type_of(e.expr)[0] // 8
         raise Refused(e, "%s isn't served: write the number" % says(e))
@@ -250,7 +253,9 @@ class Expressions(Path):
         """The type of an expression that isn't run."""
         if isinstance(e, C.Constant):
             found = self.unit.constant(e)
-            return found[1] if found else INT
+            if found is None:
+                raise Refused(e, "the constant %s (%s) isn't served" % (e.value, e.type))
+            return found[1]
         if isinstance(e, C.Cast):
             return self.unit.kind(e.to_type.type, e)
         if isinstance(e, C.TernaryOp):

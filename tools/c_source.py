@@ -71,11 +71,15 @@ STEPPED = ("p++", "++", "p--", "--")
 
 
 class Names(c_ast.NodeVisitor):
-    """The variables of an expression, and those that change within it."""
+    """The variables of an expression, those that change within it, and whether it has calls."""
 
     def __init__(self, e, whole=None):
-        self.met, self.changed, self.whole = [], [], whole
+        self.met, self.changed, self.whole, self.called = [], [], whole, False
         self.visit(e)
+
+    def visit_FuncCall(self, e):
+        self.called = True
+        self.generic_visit(e)
 
     def visit_ID(self, e):
         self.met.append(e.name)
@@ -250,13 +254,13 @@ class Source:
 
     # -- what comments say
 
-    def comment(self, first, last, word):
+    def comment(self, first, last, word, past=0):
         """What follows `word:` in the nearest comment with it before the line `first`, and in those
-        from there to the line `last`: [(key, text)]."""
+        from there to the line `last`, as far as they are past a line: [(key, text)]."""
         found = []
         for match in re.finditer(r"/\*.*?\*/|//[^\n]*", self.text, re.S):
             line = self.text.count("\n", 0, match.start()) + 1
-            if line < last:
+            if past < line < last:
                 body = re.sub(r"^/[*/]+|\*/$", "", match.group())
                 body = re.sub(r"\n\s*\*(?!/)", "\n", body)
                 found += [(line, key or "", text.strip()) for key, text in

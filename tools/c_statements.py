@@ -47,6 +47,17 @@ def plain(e):
     return isinstance(e, C.ID)
 
 
+def pieces(e):
+    """The parts of an expression that are evaluated one after the other."""
+    if isinstance(e, C.BinaryOp) and e.op in ("&&", "||"):
+        return pieces(e.left) + pieces(e.right)
+    if isinstance(e, C.TernaryOp):
+        return pieces(e.cond) + pieces(e.iftrue) + pieces(e.iffalse)
+    if isinstance(e, C.ExprList):
+        return [part for it in e.exprs for part in pieces(it)]
+    return [e]
+
+
 class Run(Expressions, Places):
     """One run of a routine. `picks` says which way each branch goes; `states` are the names of
     places that are kept from call to call, besides static variables."""
@@ -64,6 +75,9 @@ class Run(Expressions, Places):
         if result is not None:
             self.outs["result"] = result
         for thing, sel in sorted(self.written, key=lambda k: k[0].cell(k[1])):
+            if thing.cell(sel) in self.outs:
+                raise Refused(thing.decl, "two outputs would be named %s: rename one"
+                              % thing.cell(sel))
             self.outs[thing.cell(sel)] = self.env[thing, sel]
         if not apart:
             self.apart()
@@ -76,9 +90,19 @@ class Run(Expressions, Places):
     def full(self, e, whole=None):
         """Looks that what changes within a full expression is used nowhere else in it, so that the
         order in which it is evaluated doesn't matter."""
-        if id(e) in self.unit.checked:
-            return
-        self.unit.checked.add(id(e))
+        if id(e) not in self.unit.checked:
+            self.looked(e, whole)
+        for names in self.unit.checked[id(e)]:
+            for changed in names.changed:
+                thing = self.look(changed.name, changed)
+                if thing is not None and names.called and thing.outer or any(
+                        isinstance(v, Pointer) and v.thing is thing for v in self.env.values()):
+                    raise Refused(changed, "%s changes in an expression in which a call or a "
+                                           "pointer may use it: make that a statement"
+                                  % changed.name)
+
+    def looked(self, e, whole):
+        """The same, as far as names alone say it."""
         names = Names(e, whole)
         for changed in names.changed:
             if not isinstance(changed, C.ID):
@@ -87,6 +111,8 @@ class Run(Expressions, Places):
             if names.met.count(changed.name) > 1:
                 raise Refused(changed, "%s changes in an expression that uses it again" %
                               changed.name)
+        some = [Names(it, whole) for it in pieces(e)] if names.changed else []
+        self.unit.checked[id(e)] = [n for n in some if n.changed]
         while isinstance(e, C.Cast) or isinstance(e, C.Assignment) and e.op == "=" and \
                 plain(e.lvalue):
             e = e.expr if isinstance(e, C.Cast) else e.rvalue
@@ -216,6 +242,7 @@ class Run(Expressions, Places):
                 raise Refused(s, "a pointer to pointers, arrays or functions")
             if s.init is None:
                 raise Refused(s, "a pointer without a first value")
+            self.scopes[-1][s.name] = thing     # (its own first value may not have it)
             self.full(s.init)
             if not self.points(s.init):
                 raise Refused(s, "a number as a pointer")
@@ -233,6 +260,7 @@ class Run(Expressions, Places):
         thing = Thing(s.name, "scalar", self.unit.kind(s.type, s), decl=s, frame=self.frame)
         if thing.kind is None:
             raise Refused(s, "a variable of void")
+        self.scopes[-1][s.name] = thing
         if s.init is not None:
             self.put(((thing, None), None), self.value(s.init), s)
         return thing
@@ -249,9 +277,12 @@ class Run(Expressions, Places):
         size = len(given) if size is None and given else size
         if size is None or given and len(given) > size:
             raise Refused(s, "an array without a constant size that holds its values")
-        thing = Thing(s.name, "array", kind, size, decl=s, frame=self.frame)
+        self.scopes[-1][s.name] = thing = Thing(s.name, "array", kind, size, decl=s,
+                                                frame=self.frame)
+        if given:       # the order in which they are evaluated isn't certain
+            self.full(s.init)
         for k in range(size if given is not None else 0):
-            value = self.value(given[k]) if k < len(given) else Value(lit(0), kind)
+            value = self.number(given[k]) if k < len(given) else Value(lit(0), kind)
             self.put(((thing, k), None), value, s)
         return thing
 
@@ -290,8 +321,10 @@ class Run(Expressions, Places):
             for it in s.exprs:
                 self.run(it)
         elif isinstance(s, C.Cast) and self.unit.kind(s.to_type.type, s) is None:
-            if Names(s.expr).changed or isinstance(s.expr, C.FuncCall):
+            if isinstance(s.expr, (C.FuncCall, C.Assignment, C.UnaryOp)):
                 self.run(s.expr)
+            elif not isinstance(s.expr, C.ID):
+                self.value(s.expr)
         elif isinstance(s, (C.DeclList, C.Decl)):
             raise Refused(s, "a declaration in a place that isn't served")
         else:

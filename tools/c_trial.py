@@ -5,6 +5,7 @@ import random
 from c_nodes import asked_in, computed, holds
 from c_scripts import Claim, atom, claim_of, conditions, room
 from c_search import word
+from c_types import COMPARES
 from assistants import value_of
 
 
@@ -24,7 +25,7 @@ class Trial:
         for point in points:
             memo = {}
             here = [k for k, p in enumerate(work.paths) if holds(p.conds, point, memo)]
-            if not here and self.excluded(point, memo):
+            if not here and (self.excluded(point, memo) or self.undefined(point, memo)):
                 continue
             if len(here) != 1:
                 self.bad.append("%d paths take %s" % (len(here), point))
@@ -50,6 +51,17 @@ class Trial:
                     value = computed(goal.node, point, memo)
                     if value is not None and not goal.ends[0] <= value <= goal.ends[1]:
                         return True
+        return False
+
+    def undefined(self, point, memo):
+        """Whether a point leaves its path where a condition has no value, as after x / 0."""
+        for path in self.work.paths:
+            for c in path.conds:
+                a, b = computed(c.left, point, memo), computed(c.right, point, memo)
+                if a is None or b is None:
+                    return True
+                if not COMPARES[c.way](a, b):
+                    break
         return False
 
     def points(self, count, seed):

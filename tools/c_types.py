@@ -125,6 +125,12 @@ def whole(text):
     return number
 
 
+def last_line(node):
+    """The last line of a tree's nodes."""
+    return max([node.coord.line if node.coord else 0] +
+               [last_line(child) for _, child in node.children()])
+
+
 def parameters(f):
     """{name: declaration} of a function's parameters."""
     some = f.decl.type.args.params if f.decl.type.args else []
@@ -142,7 +148,7 @@ class Unit(Source):
         Source.__init__(self, path, text)
         self.functions, self.typedefs, self.tags, self.globals = {}, {}, {}, {}
         self.tables, self.constants, self.helped = {}, {}, {}
-        self.texts, self.numbers, self.checked, self.alone = {}, {}, set(), set()
+        self.texts, self.numbers, self.checked, self.alone = {}, {}, {}, set()
         for d in self.tree.ext:
             self.declared(d)
 
@@ -203,11 +209,15 @@ class Unit(Source):
     # -- what comments say
 
     def said(self, name, word):
-        """What comments of a function say after `word:`, as `comment` gives it."""
+        """What comments of a function say after `word:`, as `comment` gives it. Those up to the end
+        of an earlier function that isn't static are of that."""
         lines = [(f.decl.coord.line, f.decl.coord.file) for f in self.functions.values()]
         here = self.functions[name].decl.coord
         after = [n for n, file in lines if n > here.line and file == here.file]
-        return self.comment(here.line, min(after, default=1 << 30), word)
+        others = [last_line(f) for n, f in self.functions.items()
+                  if f.decl.coord.line < here.line and f.decl.coord.file == here.file
+                  and "static" not in f.decl.storage and n != name + "_exact"]
+        return self.comment(here.line, min(after, default=1 << 30), word, max(others, default=0))
 
     def ranges(self, name, further=()):
         """{input: (low, high)} and {array: size}, by the comment `ranges: a=-8..7 b[4]=0..255` and

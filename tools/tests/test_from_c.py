@@ -295,6 +295,72 @@ class Traps(Case):
                      "int32_t f(st *s, int16_t x)\n{\n    if (s->a == s->b) return 100000000 * x;\n"
                      "    return x;\n}\n", 3, "pointers to different places")
 
+    def test_the_size_of_a_field(self):
+        self.verdict("typedef struct { int16_t h[3]; } st;\n/* ranges: s_h=0..32767 */\n"
+                     "int32_t f(st *s)\n{\n    int32_t r = 0;\n    for (int i = 0; i < "
+                     "(int)(sizeof s->h / sizeof s->h[0]); i++) r += s->h[i] * 20000;\n"
+                     "    return r;\n}\n", 0, "result in [0, 1966020000]", ", 0 differences")
+
+    def test_a_change_that_a_call_sees(self):
+        self.verdict("static int32_t n;\nstatic int32_t g(void) { return n; }\n"
+                     "/* ranges: n=0..9 */\nint32_t f(int32_t a)\n{\n    return n++ + g();\n"
+                     "}\n", 3, "it.c:7:12: n changes in an expression in which a call")
+
+    def test_a_change_that_a_pointer_sees(self):
+        self.verdict("/* ranges: a=0..9 */\nint32_t f(int32_t a)\n{\n    int32_t *p = &a;\n"
+                     "    return a++ + *p;\n}\n", 3, "it.c:6:12: a changes in an expression")
+
+    def test_changes_one_after_the_other(self):
+        self.verdict("static int32_t n;\nstatic int32_t g(void) { return n; }\n"
+                     "/* ranges: n=0..9 */\nint32_t f(int32_t a)\n{\n"
+                     "    return n++ > 3 && g() > 7;\n}\n", 0, "n in [1, 10]")
+
+    def test_a_pointer_called_result(self):
+        self.verdict("/* ranges: a=0..9 */\nint32_t f(int32_t a, int32_t *result)\n{\n"
+                     "    *result = a * 2;\n    return a + 100;\n}\n", 0,
+                     "result in [100, 109]", "result_0 in [0, 18]", ", 0 differences")
+
+    def test_two_outputs_of_one_name(self):
+        self.verdict("void f(int32_t *a, int32_t *restrict a_1, int16_t x)\n{\n    a[1] = x;\n"
+                     "    *a_1 = x;\n}\n", 3, "it.c:2:", "two outputs would be named a_1")
+
+    def test_a_name_in_its_own_first_value(self):
+        self.verdict("/* ranges: x=0..9 */\nint32_t f(int32_t x)\n{\n    if (x > 3) {\n"
+                     "        int32_t x = x + 1;\n        return x;\n    }\n    return 0;\n}\n",
+                     3, "it.c:6:21: x has no value yet")
+
+    def test_what_is_cast_to_void_is_run(self):
+        text = "/* ranges: x=%s */\nint32_t f(int32_t x)\n{\n    (void)(100 / x);\n    (void)x;\n" \
+               "    return x;\n}\n"
+        self.verdict(text % "0..9", 1, "FALSE it.c:5:12", "division by zero")
+        self.verdict(text % "1..9", 0)
+
+    def test_changes_in_a_list_of_first_values(self):
+        self.verdict("/* ranges: x=0..9 */\nint32_t f(int32_t x)\n{\n"
+                     "    int32_t a[2] = { x++, x };\n    return a[1];\n}\n", 3,
+                     "it.c:5:22: x changes in an expression that uses it again")
+
+    def test_ranges_of_an_earlier_function(self):
+        self.verdict("/* ranges: a=0..9 */\nint32_t g(int32_t a)\n{\n    return a + 1;\n}\n"
+                     "int32_t f(int32_t a)\n{\n    return a + 1;\n}\n", 1, "FALSE it.c:9:12")
+
+    def test_a_condition_after_a_division_by_0(self):
+        self.verdict("/* ranges: a=0..5 b=0..5 */\nint32_t f(int32_t a, int32_t b)\n{\n"
+                     "    int32_t q = a / b;\n    if (q > 3) return 1;\n    return 0;\n}\n", 1,
+                     "FALSE it.c:5:17", ", 0 differences")
+
+    def test_a_place_that_one_path_writes(self):
+        self.verdict("/* ranges: p=0..1000 a=0..9 */\nvoid f(int32_t *p, int32_t a)\n{\n"
+                     "    if (a > 5) *p = a;\n}\n", 0,
+                     "p in [6, 9] (on 1 of 2 paths; on the others it isn't written)")
+
+    def test_a_step_of_joined_ways(self):
+        found, lines, _ = self.c("/* ranges: a=0..9 b=0..9 */\nint32_t f(int32_t a, int32_t b)\n"
+                                 "{\n    return (b > 3 ? a + 1 : a + 1) % 7;\n}\n", "--join",
+                                 "--test", "20")
+        self.assertEqual(found, 0, lines)
+        self.assertIn("result in [0, 6]", flat(lines))
+
 
 class Refusals(Case):
     """What isn't served, with its place in the user's file."""
