@@ -97,6 +97,7 @@ class Case:
                     by = self.chance.choice((2, 2, 4, 16))
                     self.ranges[k] = -(-low // by), high // by
             self.ranges = {k: (min(a, b), max(a, b)) for k, (a, b) in self.ranges.items()}
+        self.ends = self.limits(self.ranges)
 
     def words(self):
         return {k: near(self.chance, *e) for k, e in self.ends.items()}
