@@ -23,6 +23,7 @@ class Prover:
         self.folder, self.name, self.program, self.unit = folder, name, program, unit
         self.assumed, self.given = list(assumed), list(hints)
         self.kept, self.answers, self.runs = {}, {}, 0
+        self.believed = False       # whether a hint was met that the program doesn't check
 
     # -- runs
 
@@ -51,6 +52,7 @@ class Prover:
         if text not in self.answers:
             status, lines = self.run("prove", self.file(text, name), *OPTIONS)
             assumed = [x for x in lines if re.match(r"hint \d+ assumed", x)]
+            self.believed = self.believed or bool(assumed)
             if assumed and not self.given:
                 status, lines = 1, ["unproved: " + assumed[0]]
             self.answers[text] = status, [x for x in lines if not x.startswith("hint ")]

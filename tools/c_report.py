@@ -96,8 +96,9 @@ class Report:
         if self.state:
             found += ["  " + line for line in self.state]
         assumed = ["pointers are on different places"] * words.apart + words.assume + \
-            ["hint " + h for h in words.hint]
+            ["hint " + h for h in words.hint if work.prover.believed]
         found += ["  assumed: %s" % text for text in assumed]
+        found += ["  checked: hint %s" % h for h in words.hint if not work.prover.believed]
         if self.fixed:
             found.append("  as a fixed-point program: %s" % (
                 "proved, no step wraps" if self.fixed[0] else self.fixed[1]))
@@ -163,7 +164,8 @@ class Report:
         """What a run that proves all rests on, in one line."""
         trial, words = self.trial, self.words
         test = "not tested" if trial is None else "%d words tested" % trial.words
-        more = ", what is assumed" * bool(words.assume or words.hint or words.apart)
+        more = ", what is assumed" * bool(
+            words.assume or words.apart or words.hint and self.work.prover.believed)
         return "%d proved scripts, the reading of the C (%s), ranges%s, gcc's shifts" % (
             len(self.work.prover.kept), test, more)
 

@@ -31,6 +31,9 @@ class Trial:
                 self.bad.append("%d paths take %s" % (len(here), point))
                 continue
             path = work.paths[here[0]]
+            if not work.meets(here[0], point):
+                self.words -= 1
+                continue
             fine = True
             for goal in path.goals:
                 if goal.branch is None or holds(goal.branch.all(), point, memo):
@@ -39,7 +42,7 @@ class Trial:
             quiet += [(point, here[0])] if fine else []
             self.bad += self.ways(path, point, memo) if fine else []
             self.bad += self.held(here[0], point, fine)
-        self.wrapped = len(points) - len(quiet)
+        self.wrapped = self.words - len(quiet)
         self.compare(compiled, quiet)
 
     def excluded(self, point, memo):

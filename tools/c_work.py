@@ -3,11 +3,12 @@ outputs are from exact ones."""
 
 import os
 import random
+import re
 
 from assistants import value_of
 from c_compiled import Compiled
 from c_hints import given_twins, own_hints, twin_hints
-from c_nodes import asked_in, computed
+from c_nodes import Branch, asked_in, computed
 from c_prove import Prover, ask
 from c_scripts import Claim, atom, claim_of, conditions, program
 from c_search import Evaluation, word
@@ -168,6 +169,8 @@ class Work:
             return
         point = self.evaluation(k).counter(i, min(2.0, seconds / 3))
         claim = claim_of(goal, self.prover.place)
+        if point is not None and not self.meets(k, point):
+            point = None
         if point is None:
             own = own_hints(path, [goal.node], conditions(path, goal.branch))
             text = self.prover.script(path, [claim], goal.branch, own)
@@ -189,6 +192,14 @@ class Work:
                 found.word, found.at = "false", "`at` doesn't judge it: %s" % " ".join(lines[-1:])
             if any(found.point.get(name, first) != first for name, first in self.sought.items()):
                 found.word = "open"     # calls may not reach this state
+
+    def meets(self, k, point):
+        """Whether a point isn't known to miss what is assumed."""
+        path, assumed = self.paths[k], " ".join(self.words.assume)
+        said = set(re.findall(r"\w+", assumed))
+        claim = Claim("0 in ?", [(n, False) for n in path.order if n.name in said], "")
+        return not said or self.prover.at(path, point, self.prover.script(
+            path, [claim], Branch(None, [])))[-1:] != ["point: misses"]
 
     def seen(self, k, i, point):
         """A point, perhaps another, at which goal i fails, and what the compiled C does there: (a
@@ -300,7 +311,8 @@ class Work:
             number = list(self.paths[k].outs).index(key)
             points = [evaluation.reached(number, sign, seconds / 2) for sign in (-1, 1)]
         try:
-            found = [self.value_of_error(k, key, p) for p in points if p is not None]
+            found = [self.value_of_error(k, key, p) for p in points
+                     if p is not None and self.meets(k, p)]
         except (TypeError, ZeroDivisionError):
             return None
         return (min(found), max(found)) if found else None

@@ -221,6 +221,18 @@ class Served(Case):
         self.wraps("/* ranges: a=0..5 b=0..5 */\nuint32_t f(uint32_t a, uint32_t b)\n{\n"
                    "    return a - b;\n}\n", "5:12")
 
+    def test_assumed(self):
+        """A word that misses what is assumed is no counterexample, and isn't tested."""
+        text = ("/* ranges: a=0..100 b=0..100 */\nuint32_t f(uint32_t a, uint32_t b)\n{\n"
+                "    return a - b;\n}\n")
+        said = self.good(text, "--assume", "a - b >= 0", "--hint", "b -> a - (a - b);")
+        self.assertIn("assumed: a - b >= 0", said)
+        self.assertIn("checked: hint b -> a - (a - b);", said)
+        status, lines, _ = self.c(text, "--assume", "a - b >= -1")
+        self.assertEqual(status, 1, lines)
+        self.assertIn("OPEN  it.c:5:12", flat(lines))
+        self.assertNotIn("FALSE", flat(lines))
+
     def test_division_by_zero(self):
         self.wraps("/* ranges: a=0..5 b=0..5 */\nint32_t f(int32_t a, int32_t b)\n{\n"
                    "    return a / b;\n}\n", "5:12")
