@@ -4,6 +4,7 @@
 
 typedef struct { int16_t re, im; } complex16;
 
+/* ranges: a=-2^14..2^14 b=-2^14..2^14 w=-32767..32767 */
 void butterfly(complex16 *a, complex16 *b, complex16 w) {
     int32_t tr = (w.re * b->re - w.im * b->im) >> 15;
     int32_t ti = (w.re * b->im + w.im * b->re) >> 15;

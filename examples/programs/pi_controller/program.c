@@ -4,6 +4,7 @@
 
 #define ONE (1 << 30)
 
+/* ranges: integral=-2^30..2^30 */
 int16_t control(int16_t e, int32_t *integral) {
     int32_t sum = *integral + 1638 * e;
     int32_t i = sum > ONE ? ONE : sum < -ONE ? -ONE : sum;
