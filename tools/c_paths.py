@@ -7,7 +7,7 @@ What C is served, and how it is read, stands in c_run.py.
 from c_nodes import (TURNED, WAYS, Branch, Cond, Goal, Input, Node, Value, bounds, clamped,
                      computed, interpolation, intervals, lit, same, weights)
 from c_source import Refused, says
-from c_types import COMPARES, common, named, span
+from c_types import COMPARES, EXACT, common, named, span
 
 RESERVED = ("in", "not", "fixed", "int", "fma", "float", "sqrt")    # no names of a script
 LARGE = 1 << 66         # past every type: an end that isn't bounded
@@ -57,6 +57,7 @@ class Path:
         self.read, self.written, self.firsts, self.kept = set(), {}, {}, []
         self.asked, self.steps, self.stores = {}, {}, 0
         self.here = None        # the call of a known helper, whose goals stand there
+        self.meant = {}         # places where something wraps that is meant to, and its text
 
     # -- inputs and names
 
@@ -151,7 +152,30 @@ class Path:
 
     def step(self, op, *args, kind, where):
         """An operation, with its type's range as goal. Constants are folded, and what was computed
-        before is taken again."""
+        before is taken again. What is unsigned, and is meant to wrap, is cut to its type."""
+        if not kind[1] and op in ("add", "sub", "mul", "shift") and self.unit.meant(where):
+            v = self.made(op, args, EXACT, where)
+            return Value(self.cut(v.node, kind, where), kind)
+        return self.made(op, args, kind, where)
+
+    def cut(self, node, kind, where):
+        """A number modulo a type, as C has it of unsigned ones, and gcc of signed ones; the same
+        number, with this as a goal, where intervals say that it is in the type."""
+        low, high = span(kind)
+        if node.op == "lit":
+            return lit((node.const - low) % (1 << kind[0]) + low)
+        least, most = self.range(node)
+        if low <= least and most <= high:
+            self.goal(node, low, high, where, named(kind))
+            return node
+        self.meant[self.unit.place(where.coord)] = self.unit.says(where)
+        if kind[1]:
+            node = self.made("sub", (node, lit(low)), EXACT, where).node
+        node = self.made("low", (node, kind[0]), EXACT, where).node
+        return self.made("add", (node, lit(low)), kind, where).node if kind[1] else node
+
+    def made(self, op, args, kind, where):
+        """An operation with its type's range as goal."""
         node = Node(op, *args, coord=where.coord, text=self.unit.says(where))
         if all(a.op == "lit" for a in node.inner()):
             value = computed(node, {}, {})
@@ -171,12 +195,15 @@ class Path:
             self.steps[key], self.kinds[id(node)] = node, kind
         if id(node) not in self.known:
             self.after(node, kind)
-        self.goal(node, *span(kind), where, named(kind))
+        if kind != EXACT:
+            self.goal(node, *span(kind), where, named(kind))
         return Value(node, kind)
 
     def fits(self, v, kind, where):
         """A conversion: the value stays, which is a goal if the types don't say so."""
         low, high = span(kind)
+        if (span(v.kind)[0] < low or span(v.kind)[1] > high) and self.unit.meant(where):
+            return Value(self.cut(v.node, kind, where), kind)
         if v.node.op == "lit" and not low <= v.node.const <= high:
             raise Refused(where, "the constant %d leaves the type %s" % (v.node.const,
                                                                          named(kind)))

@@ -7,7 +7,7 @@ import sys
 
 import assistants as shared
 from c_nodes import computed
-from c_scripts import atom, claim_of, conditions, room, script
+from c_scripts import atom, claim_of, conditions, joins_of, room, script
 from c_hints import own_hints
 
 TOOLS = os.path.dirname(os.path.abspath(__file__))
@@ -61,10 +61,10 @@ class Prover:
             self.kept[name] = text
         return status, lines
 
-    def script(self, path, claims, branch=None, hints=(), conds=(), errors=None):
+    def script(self, path, claims, branch=None, hints=(), conds=(), errors=None, joins=()):
         """A script over a path, its branch, and further conditions."""
         return script(path, claims, conditions(path, branch) + list(conds), self.place,
-                      self.assumed, list(hints) + self.given, errors)
+                      self.assumed, list(hints) + self.given, errors, joins)
 
     def hinted(self, text, name, seconds):
         """What `prove` answers with hints that tools/hints finds; nothing if there are none."""
@@ -123,6 +123,9 @@ class Prover:
                 if own:
                     status, lines = self.prove(self.script(path, claims, branch, own), file)
                     hinted = hinted or status == 0
+            if status == 1 and len(some) == 1:
+                status, lines, more = self.cased(path, branch, goals[some[0]], file, lines)
+                hinted = hinted or more
             if status and len(some) == 1:
                 opened.append((some[0], " ".join(lines[:1])))
             elif status:
@@ -130,6 +133,19 @@ class Prover:
                     (len(some) + 1) // 2
                 todo += [some[a:a + size] for a in range(0, len(some), size)]
         return sorted(opened), hinted
+
+    def cased(self, path, branch, goal, file, lines):
+        """The same of one goal that is open, with the joined words near it defined by cases: status
+        and lines, those of before if that doesn't help, and whether hints were needed."""
+        joins, claim = joins_of(goal.node, branch), claim_of(goal, self.place)
+        own = own_hints(path, [goal.node], conditions(path, branch))
+        for some in [joins[:k] for k in sorted({1, 2, 4, len(joins)}) if k <= len(joins)]:
+            for hints in [[], own] if own else [[]]:
+                text = self.script(path, [claim], branch, hints, joins=some)
+                status, after = self.prove(text, file)
+                if status == 0:
+                    return status, after, bool(hints)
+        return 1, lines, False
 
     def interval(self, path, claim, name, branch=None, conds=(), more=(), errors=None, seconds=0):
         """What `prove` knows of a goal with `?`: a pair of texts, "empty", or nothing."""

@@ -92,7 +92,9 @@ class Report:
         else:
             how = ", with --hint" if words.hint else ", with hints that are checked" \
                 if work.hinted else ""
-            found.append("  proved: no operation and no conversion leaves its type" + how)
+            found.append("  proved: no %soperation and no %sconversion leaves its type%s" % (
+                ("other ",) * 2 + (how,) if work.meant() else ("", "", how)))
+        found += ["  meant to wrap: %s: %s" % pair for pair in work.meant().items()]
         if self.state:
             found += ["  " + line for line in self.state]
         assumed = ["pointers are on different places"] * words.apart + words.assume + \
@@ -186,6 +188,7 @@ class Report:
             "outputs": [self.row_of(o) for o in work.outputs.values()],
             "fixed_point_program": None if not self.fixed else
             "proved" if self.fixed[0] else self.fixed[1],
+            "meant_to_wrap": [list(pair) for pair in work.meant().items()],
             "assumed": {"claims": words.assume, "hints": words.hint, "apart": words.apart},
             "test": None if trial is None else {
                 "words": trial.words, "wrapped": trial.wrapped, "differences": trial.bad,

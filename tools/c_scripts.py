@@ -7,6 +7,7 @@ from assistants import value_of
 from c_nodes import Node, bounds
 
 PROPOSITIONS = 128      # of a script, at most
+WAYS = 64               # cases of a script, at most
 SIGNS = {"add": "+", "sub": "-", "mul": "*", "div": "/"}
 # a goal of a script: its text, the nodes of which it speaks, each by itself or by its twin, and a
 # remark that follows it in the script
@@ -75,11 +76,42 @@ def wanted(conds, claims):
     return found
 
 
-def script(path, claims, conds, place, assumed=(), hints=(), errors=None):
+def joins_of(node, branch):
+    """The joined words on which a node rests, the nearest first, as far as their ways cover the
+    points of a branch, and make at most WAYS cases together."""
+    found, todo, seen, many = [], [node], set(), 1
+    for n in todo:      # (more are added on the way)
+        if id(n) in seen:
+            continue
+        seen.add(id(n))
+        if n.rule is None:
+            todo += n.inner()
+        elif n.rule[0] == "join" and (n.branch is None or branch is not None and
+                                      not branch.whole and branch.within(n.branch)):
+            many *= len(n.rule[1])
+            if many > WAYS:
+                break
+            found.append(n)
+            todo += [v for _, v in n.rule[1]]
+    return found
+
+
+def cases_of(word):
+    """What is known of a joined word, way by way, as cases of the hypotheses."""
+    some = []
+    for conds, v in word.rule[1]:
+        is_ = "%s in [%d,%d]" % (word.name, v.const, v.const) if v.op == "lit" else \
+            "%s - %s in [0,0]" % (word.name, atom(v))
+        some.append(" /\\ ".join([relation(c) for c in conds] + [is_]))
+    return "\n  \\/ ".join(some)
+
+
+def script(path, claims, conds, place, assumed=(), hints=(), errors=None, joins=()):
     """A script with these goals: definitions and hypotheses as far as these and the conditions use
     them. `errors`: {joined word's id: (low, high) as texts}, which bound its error, so that its
-    twin is a number of which these know; nothing if one that is needed isn't known."""
-    nodes = wanted(conds, claims)
+    twin is a number of which these know; nothing if one that is needed isn't known. `joins` are
+    joined words that are defined by cases."""
+    nodes = wanted(conds, claims + [Claim("", [(n, False) for w in joins for n in w.feeds()], "")])
     lines, own, hyps = [], [], []
     for node in path.order:
         mine, twin = (id(node), False) in nodes, (id(node), True) in nodes
@@ -101,7 +133,8 @@ def script(path, claims, conds, place, assumed=(), hints=(), errors=None):
               if (id(n), False) in nodes or n.name in said]
     hyps = inputs + hyps + list(dict.fromkeys(map(relation, conds))) + list(assumed)
     text = "\n".join(lines) + "\n" if lines else ""
-    text += "{ %s\n  -> %s\n}\n" % ("\n  /\\ ".join(hyps or ["0 in [0,0]"]),
+    text += "{ %s\n  -> %s\n}\n" % ("\n  -> ".join(["\n  /\\ ".join(hyps or ["0 in [0,0]"])]
+                                                + [cases_of(w) for w in joins]),
                                     "\n  /\\ ".join(c.text + c.remark for c in claims))
     return text + "".join(h + "\n" for h in own + list(hints))
 

@@ -145,7 +145,7 @@ class Source:
         self.made = "".join(line if line.startswith("#") else re.sub(r"_Pragma\(.*?\)", "", line)
                             for line in self.made.splitlines(True)
                             if not line.startswith("#pragma"))
-        self.map = None
+        self.map, self.marked = None, self.marks()
         try:
             self.tree = c_parser.CParser().parse(self.made, path)
         except c_parser.ParseError as fault:
@@ -253,6 +253,19 @@ class Source:
         return found
 
     # -- what comments say
+
+    def marks(self):
+        """The lines of the file with a comment `wraps`, or `wraps: ..`: what wraps there is meant
+        to."""
+        some = re.finditer(r"//[ \t]*wraps[ \t]*(?=:|$)|/\*\s*wraps\s*(?=:|\*/)", self.text, re.M)
+        return {self.text.count("\n", 0, match.start()) + 1 for match in some}
+
+    def meant(self, where):
+        """Whether what stands at a place of the file is meant to wrap."""
+        where = getattr(where, "coord", where)
+        return bool(self.marked) and where is not None and \
+            (where.file or self.path) == self.path and \
+            int(self.place(where).split(":")[-2]) in self.marked
 
     def comment(self, first, last, word, past=0):
         """What follows `word:` in the nearest comment with it before the line `first`, and in those

@@ -95,6 +95,8 @@ SPELLED = {"__ssat": "__SSAT", "__usat": "__USAT", "__qadd": "__QADD", "__qsub":
 
 SPANS = {(w, s): (-2 ** (w - 1), 2 ** (w - 1) - 1) if s else (0, 2 ** w - 1)
          for w in SIZES.values() for s in (True, False)}
+EXACT = (192, True)     # of an exact result that is cut to a type afterwards: wide enough for all
+SPANS[EXACT] = (-2 ** 191, 2 ** 191 - 1)
 
 
 def span(kind):

@@ -14,6 +14,7 @@ from c_scripts import Claim, atom, claim_of, conditions, program
 from c_search import Evaluation, word
 from c_source import Refused
 from c_statements import TooMany, paths
+from c_types import span
 
 ENOUGH = 1.5        # how many times wider than what is reached an error may be without hints
 FEW = 64            # paths that are run one by one; of more, branches are joined
@@ -113,6 +114,14 @@ class Work:
         place = self.unit.place
         return dict.fromkeys((place(g.where.coord), g.node.text, g.what)
                              for p in self.paths for g in p.goals)
+
+    def meant(self):
+        """{place: text} of what wraps on some path, and is meant to."""
+        return {place: text for p in self.paths for place, text in p.meant.items()}
+
+    def idle(self):
+        """The lines that say that something is meant to wrap, where nothing may."""
+        return sorted(self.unit.marked - {int(place.split(":")[-2]) for place in self.meant()})
 
     # -- whether something wraps
 
@@ -337,6 +346,9 @@ class Work:
         found.paths = len(mine)
         if some and None not in some:
             found.range = around([exact(s) for s in some])
+            if not self.verdicts and None not in found.range:   # its type's range is proved, too
+                low, high = span(self.paths[mine[0]].outs[key].kind)
+                found.range = max(found.range[0], low), min(found.range[1], high)
         errors = {k: self.told[k][1][key] for k in mine
                   if self.told[k][1].get(key, "empty") != "empty"}
         found.rounds = any(e != ZERO for e in errors.values())

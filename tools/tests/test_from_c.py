@@ -215,6 +215,36 @@ class Served(Case):
                 "    return r;\n}\n")
         self.wraps(text, "9:13", "--join")
 
+    def test_join_by_cases(self):
+        """Which of two joined words is greater, of too many paths to run each."""
+        said = self.good("/* ranges: a[10]=0..255 b[10]=0..255 */\n"
+                         "void f(const uint8_t *restrict a, const uint8_t *restrict b, uint8_t *restrict d)\n{\n"
+                         "    for (int i = 0; i < 10; i++) {\n"
+                         "        int16_t low = a[i], high = b[i];\n        if (low > high) {\n"
+                         "            int16_t t = low;\n            low = high;\n"
+                         "            high = t;\n        }\n"
+                         "        d[i] = (uint8_t)(high - low);\n    }\n}\n")
+        self.assertIn("1 path, joined", said)
+        self.assertIn("d_9 in [0, 255]", said)
+
+    def test_meant_to_wrap(self):
+        said = self.good("uint32_t f(uint32_t *phase, uint32_t step, uint16_t now, uint16_t then)"
+                         "\n{\n    *phase += step * 3u;  /* wraps: a turn is 2^32 */\n"
+                         "    uint16_t d = (uint16_t)(now - then);  // wraps\n"
+                         "    int16_t s = (int16_t)d;  // wraps\n"
+                         "    return (*phase >> 1) + d + (uint32_t)(s + 32768);\n}\n")
+        self.assertIn("proved: no other operation and no other conversion leaves its type", said)
+        for place, text in (("4:15", "step * 3u"), ("4:6", "(*phase) + (step * 3u)"),
+                            ("5:18", "(uint16_t) (now - then)"), ("6:17", "(int16_t) d")):
+            self.assertIn("meant to wrap: it.c:%s: %s" % (place, text), said)
+        self.assertIn("phase in [0, 4294967295]", said)
+        # neither what is signed, nor what another comment tells
+        self.wraps("int32_t f(int32_t a)\n{\n    return a + 1;  // wraps\n}\n", "4:12")
+        self.wraps("/* ranges: a=0..9 */\nuint32_t f(uint32_t a)\n{\n"
+                   "    return a - 1u;  /* wraps never */\n}\n", "5:12")
+        _, _, said = self.c("uint32_t f(uint16_t a)\n{\n    return a + 1u;  // wraps\n}\n")
+        self.assertIn("nothing that may wrap is on line 4", said)
+
     def test_unsigned(self):
         self.wraps("/* ranges: a=-5..5 b=1..9 */\nint64_t f(int32_t a, uint32_t b)\n{\n"
                    "    return a / b;\n}\n", "5:12")
