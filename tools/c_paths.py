@@ -56,6 +56,8 @@ class Path:
         self.outs, self.known, self.names, self.env = {}, {}, set(RESERVED), {}
         self.read, self.written, self.firsts, self.kept = set(), {}, {}, []
         self.asked, self.steps, self.stores = {}, {}, 0
+        self.touched = []       # [(key, expression, pointers on which it rests)] of places used
+        self.modified = []      # keys of places that are written
         self.here = None        # the call of a known helper, whose goals stand there
         self.meant = {}         # places where something wraps that is meant to, and its text
 
@@ -63,6 +65,7 @@ class Path:
 
     def fresh(self, base):
         """A name that no other node has, nor an exact twin or an error of one."""
+        base = base.replace("$", "_")
         name, k = base, 1
         while self.taken(name) & self.names:
             k += 1
@@ -109,11 +112,9 @@ class Path:
     def range(self, n):
         if n.op == "lit":
             return n.const, n.const
-        if id(n) not in self.known:
-            if n.op == "var":
-                return self.inputs[n.text][1:3]
-            self.after(n, self.kinds[id(n)])    # a step of ways that were joined
-        return self.known[id(n)]
+        if n.op != "var" and id(n) not in self.known:       # of a branch that is done
+            self.after(n, self.kinds.get(id(n), EXACT))
+        return self.known.get(id(n)) or self.inputs[n.text][1:3]
 
     def after(self, n, kind):
         """Notes a step's range."""

@@ -11,14 +11,20 @@ class Pointer:
     """Where a pointer points: a thing and a cell of it (an index, or (field, index)). A pointer to
     a struct has the cell "", one to a scalar None."""
 
-    def __init__(self, thing, sel, alone=False):
-        self.thing, self.sel, self.alone = thing, sel, alone
+    def __init__(self, thing, sel, bases=frozenset()):
+        self.thing, self.sel, self.bases = thing, sel, bases
 
     def __eq__(self, other):
         return isinstance(other, Pointer) and self.thing is other.thing and self.sel == other.sel
 
     def __hash__(self):
         return hash((id(self.thing), self.sel))
+
+    def based(self, thing):
+        """The same, as the value of the pointer variable `thing`: on it, if that is restrict, all
+        rests that is reached by it."""
+        return Pointer(self.thing, self.sel, self.bases | {thing}) \
+            if "restrict" in thing.quals else self
 
     def offset(self):
         return self.sel[1] if isinstance(self.sel, tuple) else self.sel
@@ -32,9 +38,9 @@ class Pointer:
     def steps(self, by):
         """The pointer so many elements on; None if it points to no array."""
         if isinstance(self.sel, tuple):
-            return Pointer(self.thing, (self.sel[0], self.sel[1] + by))
+            return Pointer(self.thing, (self.sel[0], self.sel[1] + by), self.bases)
         if isinstance(self.sel, int):
-            return Pointer(self.thing, self.sel + by)
+            return Pointer(self.thing, self.sel + by, self.bases)
         return self if by == 0 else None
 
     def size(self):
@@ -50,6 +56,7 @@ class Places(Path):
     def __init__(self, *args, **more):
         Path.__init__(self, *args, **more)
         self.scopes, self.frame, self.statics, self.outers = [{}], 0, {}, []
+        self.bases = frozenset()        # the restrict pointers on which the last place rests
         self.states = ()        # names of places that are kept from call to call
 
     def look(self, name, e):
@@ -146,10 +153,10 @@ class Places(Path):
             if thing.sort == "pointer":
                 if (thing, None) not in self.env:
                     raise Refused(e, "%s has no value yet" % e.name)
-                return self.env[thing, None]
+                return self.env[thing, None].based(thing)
             return Pointer(thing, 0 if thing.sort == "array" else "")
         if isinstance(e, C.StructRef):
-            return Pointer(self.struct(e), (e.field.name, 0))
+            return Pointer(self.struct(e), (e.field.name, 0), self.bases)
         if isinstance(e, C.UnaryOp) and e.op == "&":
             if self.points(e.expr):
                 return self.pointer(e.expr)
@@ -158,10 +165,10 @@ class Places(Path):
             key, at = self.place(e.expr)
             if at is not None:
                 raise Refused(e, "where a pointer points depends on an input: %s" % says(e))
-            return Pointer(*key)
+            return Pointer(*key, self.bases)
         if isinstance(e, C.UnaryOp):
             place = self.place(e.expr)
-            old = self.get(place, e.expr)
+            old = self.get(place, e.expr).based(place[0][0])
             new = self.moved(old, 1 if e.op[-1] == "+" else -1, e)
             self.env[place[0]] = new
             return old if e.op[0] == "p" else new
@@ -192,12 +199,15 @@ class Places(Path):
     # -- places: a key (thing, cell), and the node of an index that depends on inputs
 
     def struct(self, e):
-        """The struct of which a field is taken."""
-        thing = None
+        """The struct of which a field is taken; `bases` are those of the pointer to it."""
+        thing, self.bases = None, frozenset()
+        if Names(e.name).changed:
+            raise Refused(e, "a change within %s: make it a statement" % says(e))
         if e.type == "->" or isinstance(e.name, C.UnaryOp) and e.name.op == "*":
             inner = e.name if e.type == "->" else e.name.expr
             pointer = self.pointer(inner) if self.points(inner) else None
             thing = pointer.thing if pointer is not None and pointer.sel == "" else None
+            self.bases = pointer.bases if thing else frozenset()
         elif isinstance(e.name, C.ID):
             thing = self.look(e.name.name, e)
         if thing is None or thing.sort != "struct":
@@ -217,19 +227,38 @@ class Places(Path):
             thing = self.look(e.name, e)
             if thing is None or thing.sort not in ("scalar", "pointer"):
                 raise Refused(e, "%s isn't a variable here" % e.name)
-            return (thing, None), None
+            return self.touch((thing, None), e), None
         if isinstance(e, C.StructRef):
             if self.field(e)[1] is not None:
                 raise Refused(e, "an array as a whole: %s" % says(e))
-            return (self.struct(e), e.field.name), None
+            return self.touch((self.struct(e), e.field.name), e, self.bases), None
         if isinstance(e, C.UnaryOp) and e.op == "*":
-            return self.cell(self.target(e.expr), 0, e, True), None
+            base = self.target(e.expr)
+            return self.touch(self.cell(base, 0, e, True), e, base.bases), None
         if isinstance(e, C.ArrayRef):
             base, at = self.target(e.name), self.number(e.subscript).node
             if at.op == "lit":
-                return self.cell(base, at.const, e), None
+                return self.touch(self.cell(base, at.const, e), e, base.bases), None
             return base, at
         raise Refused(e, "a place that isn't served: %s" % says(e))
+
+    def touch(self, key, e, bases=frozenset()):
+        """Notes that an expression uses a place, by pointers that rest on `bases`; the place."""
+        self.touched.append((key, e, bases))
+        self.bases = bases
+        return key
+
+    def broken(self, pointers, used, written, where):
+        """Refuses what breaks the promise of restrict pointers: since `used` and `written` places
+        were noted, one that is written was used by such a pointer, and not by it."""
+        wrote = set(self.modified[written:])
+        for p in pointers:
+            if p.sort == "pointer" and "restrict" in p.quals:
+                mine = {key for key, _, bases in self.touched[used:] if p in bases}
+                for key, _, bases in self.touched[used:]:
+                    if p not in bases and key in mine and key in wrote:
+                        raise Refused(where, "%s is restrict, but what it points to is used "
+                                             "otherwise, too" % p.name)
 
     def target(self, e):
         if not self.points(e):
@@ -319,7 +348,8 @@ class Places(Path):
         thing, off = pointer.thing, pointer.offset()
         if thing.values is not None and off == 0:
             return self.entry(thing.values, thing.kind, at, e)
-        cells = {k: self.get((self.cell(pointer, k, e), None), e) for k in range(low, high + 1)}
+        cells = {k: self.get((self.touch(self.cell(pointer, k, e), e, pointer.bases), None), e)
+                 for k in range(low, high + 1)}
         return self.at_index(cells, at, e)
 
     def put(self, place, v, where):
@@ -346,6 +376,7 @@ class Places(Path):
     def stored(self, thing, key, where):
         if "const" in thing.quals and (thing.outer or thing.values is not None):
             raise Refused(where, "%s is written, and is const" % thing.name)
+        self.modified.append(key)
         if thing.frame < self.frame:
             self.stores += 1
         if thing.outer and not thing.copy:
@@ -357,7 +388,7 @@ class Places(Path):
         keys = {k: self.cell(pointer, k, where) for k in range(low, high + 1)}
         new = self.fits(v, pointer.thing.of(pointer.sel), where)
         for k, key in keys.items():
-            old = self.get((key, None), where)
+            old = self.get((self.touch(key, where, pointer.bases), None), where)
             self.stored(key[0], key, where)
             if not same(old.node, new.node):
                 name = key[0].cell(key[1])
@@ -369,6 +400,7 @@ class Places(Path):
     def parameter(self, name, p):
         """What a parameter of the routine is: a number, or a pointer to something outside."""
         pointer = isinstance(p.type, (C.ArrayDecl, C.PtrDecl))
+        self.qualified(p)
         t = p.type.type if pointer else p.type
         if isinstance(t, (C.ArrayDecl, C.PtrDecl, C.FuncDecl)):
             raise Refused(p, "a pointer to pointers, arrays or functions: %s" % name)
@@ -397,6 +429,15 @@ class Places(Path):
             return
         self.scopes[-1][name] = holder = Thing(name, "pointer", None, decl=p, frame=1)
         self.env[holder, None] = Pointer(thing, "" if fields else 0)
+
+    @staticmethod
+    def qualified(d):
+        """Whether a pointer's declaration says restrict, as a set; refuses a volatile pointer."""
+        quals = set(d.type.quals or []) if isinstance(d.type, C.PtrDecl) else \
+            set(d.type.dim_quals or []) if isinstance(d.type, C.ArrayDecl) else set()
+        if "volatile" in quals:
+            raise Refused(d, "volatile isn't served: copy it into a parameter")
+        return quals & {"restrict"}
 
     def apart(self):
         """Refuses two pointers that may lie on the same place, if what is written by one is used by

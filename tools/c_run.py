@@ -281,6 +281,6 @@ class Expressions(Path):
             return self.type_of(e.expr)
         if isinstance(e, C.UnaryOp) and e.op == "sizeof":
             return SIZE
-        if isinstance(e, (C.BinaryOp, C.UnaryOp)) and e.op not in ("*", "&"):
+        if isinstance(e, C.BinaryOp) or isinstance(e, C.UnaryOp) and e.op == "!":
             return INT
         return self.place_type(e)

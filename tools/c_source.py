@@ -50,6 +50,11 @@ VENDORS = {"arm_math.h": VENDOR, "arm_acle.h": VENDOR, "cmsis_compiler.h": VENDO
 TOKEN = re.compile(r"[A-Za-z_]\w*|\.?[0-9](?:[eEpP][-+]|[\w.])*|\"(?:\\.|[^\"\\])*\""
                    r"|'(?:\\.|[^'\\])*'|<<=|>>=|\.\.\.|->|\+\+|--|<<|>>|<=|>=|==|!=|&&|\|\|"
                    r"|[-+*/%&|^]=|\S")
+# attributes that leave what a text means as it is
+ATTRIBUTES = {"aligned", "always_inline", "artificial", "cold", "const", "deprecated",
+              "fallthrough", "flatten", "format", "gnu_inline", "hot", "leaf", "noclone",
+              "noinline", "nonnull", "nothrow", "optimize", "packed", "pure", "section", "unused",
+              "used", "visibility", "warn_unused_result"}
 MARK = re.compile(r'# (\d+) "((?:\\.|[^"\\])*)"')
 
 
@@ -132,7 +137,7 @@ class Source:
                 with open(name, "w", encoding="latin-1") as it:
                     it.write(text)
             words = ["gcc", "-E", "-nostdinc", "-I", folder, "-D__restrict=restrict",
-                     "-D__inline=inline", "-D__attribute__(x)=", "-D__extension__=",
+                     "-D__inline=inline", "-D__extension__=",
                      "-D__inline__=inline", "-D__restrict__=restrict", "-D__const=const", name]
             try:
                 done = subprocess.run(words, stdout=subprocess.PIPE, stderr=subprocess.PIPE,
@@ -142,9 +147,10 @@ class Source:
         self.made = done.stdout.decode("latin-1").replace(name, path)
         if done.returncode:
             raise self.of_gcc(done.stderr.decode("latin-1").replace(name, path))
-        self.made = "".join(line if line.startswith("#") else re.sub(r"_Pragma\(.*?\)", "", line)
-                            for line in self.made.splitlines(True)
-                            if not line.startswith("#pragma"))
+        self.made = "".join("\n" if line.startswith("#pragma") else line if line.startswith("#")
+                            else re.sub(r"_Pragma\(.*?\)", "", line)
+                            for line in self.made.splitlines(True))
+        self.made = self.attributes()
         self.map, self.marked = None, self.marks()
         try:
             self.tree = c_parser.CParser().parse(self.made, path)
@@ -154,6 +160,24 @@ class Source:
             where = self.at(match.group(1), int(match.group(2)), int(match.group(3))) \
                 if match else path
             raise Refused(where, "this isn't C that is read here: " + what)
+
+    def attributes(self):
+        """The text with attributes as blanks. Refuses those that may change what a text means."""
+        found, last = [], 0
+        for match in re.finditer(r"\b__attribute(?:__)?\s*\(\((.*?)\)\)", self.made, re.S):
+            names = re.findall(r"\w+", re.sub(r"\(.*?\)", "", match.group(1) + ")"))
+            for name in names:
+                if name.strip("_") not in ATTRIBUTES:
+                    before = self.made[:match.start()]
+                    lines = before[before.rfind("\n# ") + 1:].split("\n")
+                    mark = MARK.match(lines[0])
+                    raise Refused("%s:%d:%d" % (
+                        os.path.basename(mark.group(2)), int(mark.group(1)) + len(lines) - 2,
+                        len(lines[-1]) + 1) if mark else self.path,
+                        "the attribute %s isn't served" % name)
+            found += [self.made[last:match.start()], re.sub(r"[^\n]", " ", match.group())]
+            last = match.end()
+        return "".join(found + [self.made[last:]])
 
     def place_by_gcc(self):
         """Where gcc finds the first error of the preprocessed text."""

@@ -118,10 +118,24 @@ class Run(Expressions, Places):
             e = e.expr if isinstance(e, C.Cast) else e.rvalue
         self.unit.alone.add(id(e))
 
+    def fully(self, e, run, whole=None):
+        """What `run` gives of a full expression; refuses one that uses, by a pointer or in a call,
+        what changes in it."""
+        self.full(e, whole)
+        used, value = len(self.touched), None
+        value = run(e)
+        some = self.unit.checked[id(e)] if len(pieces(e)) == 1 else []
+        for changed in [it for names in some for it in names.changed]:
+            thing = self.look(changed.name, changed)
+            if any(key == (thing, None) and by is not changed
+                   for key, by, _ in self.touched[used:]):
+                raise Refused(changed, "%s changes in an expression that uses it again by a "
+                                       "pointer" % changed.name)
+        return value
+
     def value(self, e, whole=None):
         """The value of a full expression."""
-        self.full(e, whole)
-        return self.expr(e)
+        return self.fully(e, self.expr, whole)
 
     # -- calls
 
@@ -140,6 +154,13 @@ class Run(Expressions, Places):
             raise Refused(e, "%s has %d parameters" % (name, len(kinds)))
         scope = {n: self.argument(n, p, a) for (n, p), a in zip(kinds.items(), given)}
         outer, self.scopes, before = self.scopes, [{}, {}], self.stores
+        things = [thing for thing, _ in scope.values()]
+
+        def body():
+            used, wrote = len(self.touched), len(self.modified)
+            value = self.body(f)
+            self.broken(things, used, wrote, e)
+            return value
         self.frame += 1
         self.calls.append(f)
         for n, (thing, value) in scope.items():
@@ -148,7 +169,7 @@ class Run(Expressions, Places):
             self.env[thing, None] = value
         here, self.here = self.here, self.here or (None if name in self.unit.functions else e)
         try:
-            result = self.joined(lambda: self.body(f), e, name) if self.joins else self.body(f)
+            result = self.joined(body, e, name) if self.joins else body()
         except Refused as fault:
             if self.here is None or fault.where is e:
                 raise
@@ -171,7 +192,7 @@ class Run(Expressions, Places):
                 raise Refused(a, "a number as the pointer %s" % name)
             value = self.pointer(a)
             self.agrees(value, p.type.type, a)
-            return Thing(name, "pointer", None, decl=p), value
+            return Thing(name, "pointer", None, quals=self.qualified(p), decl=p), value
         if self.unit.fields(p.type):
             raise Refused(a, "a call with a struct: pass a pointer to it")
         kind = self.unit.kind(p.type, p)
@@ -214,6 +235,12 @@ class Run(Expressions, Places):
         table = isinstance(s.type, C.ArrayDecl) and "const" in s.quals and s.init is not None and \
             isinstance(s.init, C.InitList) and all(
                 not isinstance(x, C.NamedInitializer) and self.constant(x) for x in s.init.exprs)
+        if s.init is not None and s.name in Names(s.init).met:
+            raise Refused(s, "%s within its own first value" % s.name)
+        if "static" in s.storage and any(n in scope for it in (s.init, getattr(s.type, "dim", None))
+                                         if it is not None for n in Names(it).met
+                                         for scope in self.scopes[1:]):
+            raise Refused(s, "a first value of %s isn't constant" % s.name)
         if table:
             values, kind = self.unit.table(s)
             thing = Thing(s.name, "array", kind, len(values), ("const",), s, frame=self.frame)
@@ -237,16 +264,15 @@ class Run(Expressions, Places):
     def local(self, s):
         """A variable of a function, with its first value."""
         if isinstance(s.type, C.PtrDecl):
-            thing = Thing(s.name, "pointer", None, decl=s, frame=self.frame)
+            thing = Thing(s.name, "pointer", None, quals=self.qualified(s), decl=s,
+                          frame=self.frame)
             if isinstance(s.type.type, (C.PtrDecl, C.ArrayDecl, C.FuncDecl)):
                 raise Refused(s, "a pointer to pointers, arrays or functions")
             if s.init is None:
                 raise Refused(s, "a pointer without a first value")
-            self.scopes[-1][s.name] = thing     # (its own first value may not have it)
-            self.full(s.init)
             if not self.points(s.init):
                 raise Refused(s, "a number as a pointer")
-            pointer = self.pointer(s.init)
+            pointer = self.fully(s.init, self.pointer)
             self.agrees(pointer, s.type.type, s.init)
             self.env[thing, None] = pointer
             return thing
@@ -309,14 +335,11 @@ class Run(Expressions, Places):
         elif isinstance(s, C.Continue):
             raise Continue
         elif isinstance(s, C.Assignment):
-            self.full(s, s)
-            self.assign(s)
+            self.fully(s, self.assign, s)
         elif isinstance(s, C.UnaryOp) and s.op in STEPPED:
-            self.full(s, s)
-            self.expr(s)
+            self.fully(s, self.expr, s)
         elif isinstance(s, C.FuncCall):
-            self.full(s)
-            self.call(s)
+            self.fully(s, self.call)
         elif isinstance(s, C.ExprList):
             for it in s.exprs:
                 self.run(it)
@@ -332,8 +355,7 @@ class Run(Expressions, Places):
 
     def decided(self, e):
         """Whether a condition holds, as a full expression."""
-        self.full(e)
-        return self.truth(e)
+        return self.fully(e, self.truth)
 
     def branches(self, s, run):
         """An if or a switch. With joins its ways come together, unless it leaves its place."""
@@ -356,11 +378,12 @@ class Run(Expressions, Places):
                 if isinstance(v, Pointer):
                     raise Refused(s, "a pointer as a number: %s" % says(s))
                 v = self.binary(C.BinaryOp(op, s.lvalue, s.rvalue, s.coord), op, old, v)
-        return self.put(place, v, s)
+        v = self.put(place, v, s)
+        return v.based(place[0][0]) if isinstance(v, Pointer) else v
 
     def block(self, s):
         """A block, or a for with what it declares: its names end with it."""
-        scope = {}
+        scope, used, wrote = {}, len(self.touched), len(self.modified)
         self.scopes.append(scope)
         try:
             some = s.block_items or [] if isinstance(s, C.Compound) else \
@@ -374,10 +397,10 @@ class Run(Expressions, Places):
                 self.loop(s)
         finally:
             self.scopes.pop()
-        for thing in scope.values():
-            if not thing.outer:
-                for key in [k for k in self.env if k[0] is thing]:
-                    del self.env[key]
+            self.broken(scope.values(), used, wrote, s)
+            gone = {thing for thing in scope.values() if not thing.outer}
+            for key in [k for k in self.env if k[0] in gone]:
+                del self.env[key]
 
     def loop(self, s, first=False):
         """A loop whose end doesn't depend on inputs."""
@@ -402,8 +425,7 @@ class Run(Expressions, Places):
 
     def switch(self, s):
         """A switch: the case that is taken, and what follows up to a break."""
-        self.full(s.cond)
-        what = self.number(s.cond).promoted()
+        what = self.fully(s.cond, self.number).promoted()
         some = s.stmt.block_items or [] if isinstance(s.stmt, C.Compound) else [s.stmt]
         if some and not isinstance(some[0], (C.Case, C.Default)):
             raise Refused(some[0], "a statement of a switch before its first case")
@@ -412,7 +434,7 @@ class Run(Expressions, Places):
             if isinstance(case, C.Default):
                 fallback = k
             elif isinstance(case, C.Case) and taken is None:
-                label = self.unit.fold(case.expr)
+                label = self.unit.fold(case.expr) if self.constant(case.expr) else None
                 if label is None:
                     raise Refused(case, "a case that isn't constant: %s" % says(case.expr))
                 if self.compare("==", what, Value(*self.label(label, what.kind, case)), case.expr):

@@ -171,8 +171,8 @@ class Unit(Source):
                 self.tables[d.name] = self.table(d)
             elif isinstance(d.type, C.TypeDecl) and "const" in d.quals and d.init is not None:
                 self.constants[d.name] = self.initial(d)
-            else:
-                self.globals[d.name] = d
+            elif d.init is not None or d.name not in self.globals:
+                self.globals[d.name] = d        # (one without a value may stand besides)
 
     def enumerated(self, t):
         """The constants of an enum, which are ints."""
@@ -377,6 +377,7 @@ class Unit(Source):
             if b == 0:
                 raise Refused(e, "a division by 0: %s" % says(e))
             quotient = abs(a) // abs(b) * (1 if (a < 0) == (b < 0) else -1)
+            self.within(quotient, kind, e)
             return self.within(quotient if e.op == "/" else a - b * quotient, kind, e)
         if e.op in ("&", "|", "^"):
             value = a & b if e.op == "&" else a | b if e.op == "|" else a ^ b

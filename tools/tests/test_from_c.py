@@ -215,6 +215,13 @@ class Served(Case):
                 "    return r;\n}\n")
         self.wraps(text, "9:13", "--join")
 
+    def test_join_of_equal_ways(self):
+        """A product that each way gives is known after the join."""
+        said = self.good("/* ranges: a=-9..9 b=-9..9 c=-5..5 */\nint32_t f(int32_t a, int32_t b, "
+                         "int32_t c)\n{\n    int32_t t;\n    if (c > 0) t = a * b; else t = a * b;"
+                         "\n    return t * 2;\n}\n", "--join")
+        self.assertIn("result in [-162, 162]", said)
+
     def test_join_by_cases(self):
         """Which of two joined words is greater, of too many paths to run each."""
         said = self.good("/* ranges: a[10]=0..255 b[10]=0..255 */\n"
@@ -226,6 +233,32 @@ class Served(Case):
                          "        d[i] = (uint8_t)(high - low);\n    }\n}\n")
         self.assertIn("1 path, joined", said)
         self.assertIn("d_9 in [0, 255]", said)
+
+    def test_rules(self):
+        """Promotions, sizes, hidden names, commas, enums, quotients and shifts of negative numbers,
+        each a rule of C that a reader may get wrong."""
+        said = self.good(
+            "enum { LOW = -3, NEXT, HIGH = 0x10 };\n"
+            "static const int16_t tab[] = { 1, -2, 3, 'A' };\n"
+            "/* ranges: a=-100..100 b=0..200 c=-100..100 */\n"
+            "int32_t f(int8_t a, uint8_t b, int8_t c)\n{\n"
+            "    int32_t n = (int32_t)(sizeof tab / sizeof tab[0]);\n"
+            "    int32_t m = (int32_t)(sizeof(0, a) + sizeof(a + b) + sizeof(int64_t)\n"
+            "        + sizeof 'x');\n"
+            "    int32_t s = a * b - c, q = (a - b) / 7 + (a << 3) / 5 + (-a >> 1);\n"
+            "    { int32_t n = 2; s += n; }\n"
+            "    for (int i = 0, j = 3; i < j; i++, j--) s += tab[i] * tab[j];\n"
+            "    s += (~b & 0xff) + (b > 100) + (a < c ? a : HIGH) + NEXT + LOW;\n"
+            "    return s + q + n * m;\n}\n")
+        self.assertIn(" paths, ", said)
+        self.wraps("/* ranges: a=-5..5 b=1..9 */\nint64_t f(int32_t a, uint32_t b)\n{\n"
+                   "    return b > 3 ? a : b;\n}\n", "5:12")
+        status, lines, _ = self.c("int16_t f(void)\n{\n    static int16_t t[3] = { 5 };\n"
+                                  "    t[0] = (int16_t)(t[0] / 2);\n    t[1] = t[2];\n"
+                                  "    return (int16_t)(t[0] + t[1]);\n}\n")
+        self.assertEqual(status, 0, lines)
+        for line in ("t_0 in [0, 5], from its first value 5", "t_2 in [0, 0], from its first"):
+            self.assertIn("state " + line, flat(lines))
 
     def test_meant_to_wrap(self):
         said = self.good("uint32_t f(uint32_t *phase, uint32_t step, uint16_t now, uint16_t then)"
@@ -444,7 +477,65 @@ class Refusals(Case):
          "give its range"),
         ("_Bool f(int32_t a)\n{\n    return a;\n}\n", "it.c:2:", "_Bool"),
         ("int32_t f(int32_t a)\n{\n    return __SSAT(a, a);\n}\n", "it.c:4:12",
-         "within the helper"))
+         "within the helper"),
+        # each of these was once served, and with another meaning than C's
+        ("int32_t f(uint8_t x)\n{\n    return (x >= 0 ? x : 1.5) / 2 * 2;\n}\n", "it.c:4:26",
+         "the constant 1.5"),
+        ("int32_t f(void)\n{\n    return (int32_t)sizeof(\"abcdef\");\n}\n",
+         "it.c:4:28", "isn't served"),
+        ("int32_t f(int32_t a)\n{\n    int32_t x = 5;\n    { int32_t x = x + 1; a = x; }\n"
+         "    return a;\n}\n", "it.c:5:15", "within its own first value"),
+        ("int32_t f(void)\n{\n    int32_t x = 3, *p = &x;\n    *p = (x = 5) + 1;\n    return x;"
+         "\n}\n", "it.c:5:11", "uses it again by a pointer"),
+        ("static int32_t g(int32_t *q) { return *q; }\nint32_t f(void)\n{\n"
+         "    int32_t x = 3, *p = &x;\n    return x++ + g(p);\n}\n", "it.c:6:12",
+         "uses it again by a pointer"),
+        ("int32_t f(void)\n{\n    int32_t y = 1, *p = &y;\n    for (;;) {\n        int32_t x = 5;"
+         "\n        p = &x;\n        break;\n    }\n    return *p;\n}\n", "it.c:10:13",
+         "has no value yet"),
+        ("struct s { int32_t v; };\nint32_t f(const struct s *a, const struct s *b, int32_t x)\n{\n"
+         "    const struct s *p = a;\n    x = x > 2 ? (p = b)->v : 0;\n    return p->v / 2;\n}\n",
+         "it.c:6:18", "make it a statement"),
+        ("static void g(int32_t *restrict x, int32_t *y)\n{\n    *x = 1;\n    *y = 2;\n}\n"
+         "int32_t f(int32_t a)\n{\n    g(&a, &a);\n    return a;\n}\n", "it.c:9:5",
+         "x is restrict"),
+        ("int32_t f(int32_t *a)\n{\n    int32_t *restrict p = a, *q = a;\n    *p = 1;\n"
+         "    return *q;\n}\n", "it.c:3:1", "p is restrict"),
+        ("int32_t f(int32_t a)\n{\n    int32_t t[1 + (-2147483647 - 1) % -1];\n    t[0] = a;\n"
+         "    return t[0];\n}\n", "it.c:4:21", "leaves its type"),
+        ("const int32_t N = 8;\nint32_t f(void)\n{\n    const int32_t N = 4;\n"
+         "    static int32_t s = N;\n    s = N;\n    return s;\n}\n", "it.c:6:20",
+         "isn't constant"),
+        ("typedef int half __attribute__((unused, mode(HI)));\nint32_t f(half a)\n{\n"
+         "    return a;\n}\n", "it.c:2:18", "the attribute mode"),
+        ("int32_t f(int32_t *volatile p)\n{\n    return *p;\n}\n", "it.c:2:", "volatile"),
+        ("#pragma GCC optimize(2)\nint32_t f(int32_t a)\n{\n    return a * 1.5;\n}\n",
+         "it.c:5:16", "the constant 1.5"),
+        ("int32_t f(int32_t a)\n{\n    return a << -1;\n}\n", "it.c:4:12", "a shift by"),
+        ("int32_t f(int32_t a)\n{\n    return a >> 32;\n}\n", "it.c:4:12", "a shift by"),
+        ("int32_t f(int32_t n)\n{\n    int32_t t[n];\n    return t[0];\n}\n", "it.c:4:13",
+         "isn't a constant"),
+        ("int32_t f(int32_t a)\n{\n    return *(int16_t *)&a;\n}\n", "it.c:4:13",
+         "a cast of a pointer"),
+        ("struct s { int32_t a : 5; };\nint32_t f(struct s *p)\n{\n    return p->a;\n}\n",
+         "it.c:2:20", "a field of bits"),
+        ("enum e { A };\nint32_t f(enum e a)\n{\n    return a;\n}\n", "it.c:3:18",
+         "isn't an integer's"),
+        ("union u { int32_t a; };\nint32_t f(union u *p)\n{\n    return p->a;\n}\n", "it.c:3:",
+         "isn't an integer's"))
+
+    def test_served_with_restrict(self):
+        """Two restrict pointers into one array, on different elements or both only read."""
+        status, lines, _ = self.c(
+            "static int32_t g(const int16_t *restrict x, const int16_t *restrict y)\n{\n"
+            "    return *x * *y;\n}\nstatic void h(int16_t *restrict x, int16_t *restrict y)\n{\n"
+            "    *x++ = 3;\n    *x = *y;\n}\n"
+            "/* ranges: a=-9..9 */\nint32_t f(int16_t a) __attribute__((noinline));\n"
+            "int32_t f(int16_t a)\n{\n    int16_t t[3] = { a, 2, 5 };\n    h(t, t + 2);\n"
+            "    return g(t, t) + t[1] + a;\n}\n", "--test", "5")
+        self.assertEqual(status, 0, lines)
+        self.assertIn("result in [5, 23]", flat(lines))
+        self.assertIn(", 0 differences", flat(lines))
 
     def test_refused(self):
         for text, place, what in self.TEXTS:
@@ -528,7 +619,11 @@ MUTANTS = (
      SIGNED % "a != 5 ? b : a"),
     ("c_paths.py", 'self.goal(v.node, low, high, where, "conversion to " + named(kind))', "pass",
      SIGNED % "(uint8_t)a"),
-    ("c_paths.py", "        self.goal(node, *span(kind), where, named(kind))\n", "", WIDE),
+    ("c_paths.py", "self.goal(node, *span(kind), where, named(kind))\n", "pass\n", WIDE),
+    ("c_paths.py", '"low", (node, kind[0])', '"low", (node, kind[0] - 1)',
+     "uint32_t f(uint32_t a, uint32_t b)\n{\n    return a * b;  // wraps\n}\n"),
+    ("c_paths.py", '"sub", (node, lit(low)), EXACT', '"add", (node, lit(low + 1)), EXACT',
+     "int32_t f(uint32_t a, uint32_t b)\n{\n    return (int32_t)(a - b);  // wraps\n}\n"),
     ("c_paths.py", "min(some), max(some), kind", "max(some), max(some), kind", "ntc_interp"),
     ("c_run.py", "side = e.iftrue if self.truth", "side = e.iffalse if self.truth",
      SIGNED % "a > 5 ? b : a"),
@@ -542,7 +637,7 @@ MUTANTS = (
      '[(b.conds, some[0][1].node) for b, v, _ in some]', SIGNED % "a > 5 ? b : a"),
     ("c_paths.py", '(("==", new), ("<", old), (">", old))', '(("==", old), ("<", new), (">", new))',
      "/* ranges: a[3]=0..9 k=0..2 */\nvoid f(int32_t *a, int16_t k)\n{\n    a[k] = 7;\n}\n"),
-    ("c_places.py", "Pointer(self.thing, self.sel + by)", "Pointer(self.thing, self.sel + 2 * by)",
+    ("c_places.py", "Pointer(self.thing, self.sel + by,", "Pointer(self.thing, self.sel + 2 * by,",
      "/* ranges: a[5]=0..9 */\nint32_t f(int32_t *a)\n{\n    a++;\n    return *a;\n}\n"),
     ("c_statements.py", "for item in some[taken:]:", "for item in some[taken:taken + 1]:",
      "/* ranges: a=0..3 */\nint32_t f(int32_t a)\n{\n    int32_t r = 1;\n    switch (a) {\n"
