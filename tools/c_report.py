@@ -123,7 +123,8 @@ class Report:
             path = ", path %d" % (v.path + 1) if len(work.paths) > 1 else ""
             return ["  OPEN  %s" % head, "    no word was found at which it fails, and no hints%s; "
                     "%s" % (path, v.line)]
-        return ["  FALSE %s" % head, "    at %s it is %s, %s;" % (at, v.value, v.at),
+        value = "without a value" if v.value is None else v.value
+        return ["  FALSE %s" % head, "    at %s it is %s, %s;" % (at, value, v.at),
                 "    the compiled C: %s" % v.seen[1]]
 
     def output(self, out):
