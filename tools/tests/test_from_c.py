@@ -225,7 +225,8 @@ class Served(Case):
     def test_join_by_cases(self):
         """Which of two joined words is greater, of too many paths to run each."""
         said = self.good("/* ranges: a[10]=0..255 b[10]=0..255 */\n"
-                         "void f(const uint8_t *restrict a, const uint8_t *restrict b, uint8_t *restrict d)\n{\n"
+                         "void f(const uint8_t *restrict a, const uint8_t *restrict b,\n"
+                         "       uint8_t *restrict d)\n{\n"
                          "    for (int i = 0; i < 10; i++) {\n"
                          "        int16_t low = a[i], high = b[i];\n        if (low > high) {\n"
                          "            int16_t t = low;\n            low = high;\n"
@@ -402,7 +403,7 @@ class Traps(Case):
     def test_a_name_in_its_own_first_value(self):
         self.verdict("/* ranges: x=0..9 */\nint32_t f(int32_t x)\n{\n    if (x > 3) {\n"
                      "        int32_t x = x + 1;\n        return x;\n    }\n    return 0;\n}\n",
-                     3, "it.c:6:21: x has no value yet")
+                     3, "it.c:6:17: x within its own first value")
 
     def test_what_is_cast_to_void_is_run(self):
         text = "/* ranges: x=%s */\nint32_t f(int32_t x)\n{\n    (void)(100 / x);\n    (void)x;\n" \
@@ -486,10 +487,10 @@ class Refusals(Case):
         ("int32_t f(int32_t a)\n{\n    int32_t x = 5;\n    { int32_t x = x + 1; a = x; }\n"
          "    return a;\n}\n", "it.c:5:15", "within its own first value"),
         ("int32_t f(void)\n{\n    int32_t x = 3, *p = &x;\n    *p = (x = 5) + 1;\n    return x;"
-         "\n}\n", "it.c:5:11", "uses it again by a pointer"),
+         "\n}\n", "it.c:5:11", "a call or a pointer may use it"),
         ("static int32_t g(int32_t *q) { return *q; }\nint32_t f(void)\n{\n"
          "    int32_t x = 3, *p = &x;\n    return x++ + g(p);\n}\n", "it.c:6:12",
-         "uses it again by a pointer"),
+         "a call or a pointer may use it"),
         ("int32_t f(void)\n{\n    int32_t y = 1, *p = &y;\n    for (;;) {\n        int32_t x = 5;"
          "\n        p = &x;\n        break;\n    }\n    return *p;\n}\n", "it.c:10:13",
          "has no value yet"),
