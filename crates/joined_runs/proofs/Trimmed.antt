@@ -76,7 +76,7 @@ module _ (law : SpelledAreAccepted) (once : SpellsOnce) (checks : ChecksAreOne)
       checked_of law text old bytes (Some cert) new_short d accepts
 
 -- what a run of `check` puts that was answered
-checked_lines : (c : AskedCheck) (p : Run) (text cert : Bytes) → HasChecked c p text cert
+pub checked_lines : (c : AskedCheck) (p : Run) (text cert : Bytes) → HasChecked c p text cert
     → p.status ≡ status.Answered → (lines : Bytes) × IsChecked text (Some cert) lines × Puts p lines
 checked_lines c p text cert k answered =
     by (subst (λ s. EndsIn s None (CheckFate c p) p) answered k.ran.ends.runs.ends) where

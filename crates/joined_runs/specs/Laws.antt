@@ -1,6 +1,7 @@
 -- What a run leaves for another.
 use Rattle.std.specs.Prelude.{◌≡◌, ℤ, List, Some, codes}
 use Rattle.script_meets.specs.Held.{AreHeld}
+use Rattle.cert_bytes.specs.ReadOut.{AreBytes}
 use Rattle.point_values.specs.Rows.{Row, assignment_of}
 use Rattle.point_eval.specs.Judged.{EndsIn}
 use Rattle.point_text.specs.Points.{SpellsPoint}
@@ -13,12 +14,14 @@ use Rattle.command_line.specs.Check.{AskedCheck}
 use Rattle.command_line.specs.Fix.{AskedFix}
 use Rattle.command_line.specs.Reading.{Asked}
 use Rattle.command_line.specs.Trim.{AskedTrim}
+use Rattle.command_line.specs.Upgrade.{AskedUpgrade}
 use Rattle.command_runs.specs.Fates.{Comes}
 use Rattle.command_runs.specs.Runs.{Bytes, Run, Puts}
 use Rattle.command_runs.specs.declared.status.Status.TheVariants as status
 use Rattle.script_answers.specs.Answers.{IsAnswered, options_of}
 use Rattle.prove_command.specs.Command.{IsProveRun}
 use Rattle.check_command.specs.Command.{IsCheckRun}
+use Rattle.upgrade_command.specs.Command.{IsUpgradeRun}
 use Rattle.trim_command.specs.Command.{IsTrimRun}
 use Rattle.fix_command.specs.Command.{IsFixRun}
 use Rattle.at_command.specs.Command.{IsAtRun}
@@ -72,6 +75,27 @@ TrimmedAreAnswered = (a : AskedTrim) (b : AskedCheck) (r q : Run) (text cert byt
     → Comes status.Answered q.status
     × ((c : AskedCheck) (p : Run) → HasChecked c p text cert → p.status ≡ status.Answered
     → q.status ≡ status.Answered → (lines : Bytes) × Puts p lines × Puts q lines)
+
+-- ---- of certificates that are upgraded
+-- A run of `upgrade` was answered: of a certificate of these bytes, which the folder told, with a
+-- new file in a told one, which holds these bytes now.
+pub record HasUpgraded (a : AskedUpgrade) (r : Run) (cert bytes : Bytes) : Type 0 where
+  pub ran : IsUpgradeRun a r
+  pub answered : r.status ≡ status.Answered
+  pub told : r.before.told a.cert ≡ Some cert
+  pub old : Bytes
+  pub held : r.before.told a.new ≡ Some old
+  pub holds : r.after.told a.new ≡ Some bytes
+
+-- A run of `check` answered the old certificate for a script's text. Then `check` answers what
+-- `upgrade` wrote for that text, or else a fault of the outside comes, or lack of memory; and its
+-- lines are the same.
+abbrev pub UpgradedAreAnswered : Type 0
+UpgradedAreAnswered = (a : AskedUpgrade) (b c : AskedCheck) (r q p : Run)
+    → (text cert bytes : Bytes) → AreBytes cert → HasUpgraded a r cert bytes
+    → HasChecked c p text cert → p.status ≡ status.Answered → HasChecked b q text bytes
+    → Comes status.Answered q.status
+    × (q.status ≡ status.Answered → (lines : Bytes) × Puts p lines × Puts q lines)
 
 -- ---- of programs
 -- A run of `fix` was answered: of a program whose text the folder told, with a script in a told

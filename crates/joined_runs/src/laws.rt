@@ -1,8 +1,10 @@
 // What a run leaves for another.
 ghost use Rattle.joined_runs.specs.Laws.{FixedProgramsAreSound, PointsAreHeld};
-ghost use Rattle.joined_runs.specs.Laws.{TrimmedAreAnswered, WrittenAreAnswered};
+ghost use Rattle.joined_runs.specs.Laws.{TrimmedAreAnswered, UpgradedAreAnswered};
+ghost use Rattle.joined_runs.specs.Laws.{WrittenAreAnswered};
 
 use at_command::meeting_points_meet;
+use cert_bytes::certificates_are_spelled_once;
 use cert_checker::bytes_are_accepted;
 use check_command::check_answers_are_one;
 use program_truths::no_run_wraps;
@@ -25,6 +27,16 @@ pub fn trimmed_certificates_are_answered()
 {
     script_or_refusal();
     checks_are_one();
+    bytes_are_accepted();
+    check_answers_are_one();
+}
+
+/// The law that `check` answers what `upgrade` wrote for each script for which it answered the old
+/// certificate, with the same lines. Nothing is done.
+pub fn upgraded_certificates_are_answered()
+    ensures { UpgradedAreAnswered }
+{
+    certificates_are_spelled_once();
     bytes_are_accepted();
     check_answers_are_one();
 }

@@ -5,5 +5,5 @@ mod laws;
 
 pub use laws::{
     fixed_programs_are_sound, meeting_points_are_held, trimmed_certificates_are_answered,
-    written_certificates_are_answered,
+    upgraded_certificates_are_answered, written_certificates_are_answered,
 };
