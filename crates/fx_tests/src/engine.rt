@@ -304,6 +304,108 @@ fn options_change_the_answer(rt: HostRuntime) -> Result<(), Fail> {
     Ok(())
 }
 
+// The halved script on the right half of its range.
+const RIGHT: &str = "{ x in [0.5,1] -> x * (1 - x) in [0,0.3] } x * (1 - x) $ x;";
+
+const CUT: &str = "{ x in [0,1] -> x * (1 - x) in ? } $ x in 4;";
+
+const PROVE: &[&str] = &["prove", "a"];
+
+// Words, the text of `a`, and how the run ends.
+const BOXES: [(&[&str], &str, Status, &str); 13] = [
+    // by three halvings the tree has 11 boxes, of which two are open; the first is named
+    (
+        &["prove", "a", "--depth", "3", "--boxes", "10"],
+        HALVED,
+        Status::Limit,
+        "limit: more than 10 boxes\n",
+    ),
+    (
+        &["prove", "a", "--depth", "3", "--boxes", "11"],
+        HALVED,
+        Status::Unproved,
+        "unproved: goal 1 at x in [3b-3, 1b-1]\n",
+    ),
+    // the other one, which a further halving settles: 4 boxes more for both
+    (
+        &["prove", "a", "--depth", "2"],
+        RIGHT,
+        Status::Unproved,
+        "unproved: goal 1 at x in [1b-1, 5b-3]\n",
+    ),
+    (
+        &["prove", "a", "--depth", "3", "--boxes", "6"],
+        RIGHT,
+        Status::Limit,
+        "limit: more than 6 boxes\n",
+    ),
+    (
+        &["prove", "a", "--depth", "3", "--boxes", "7"],
+        RIGHT,
+        Status::Answered,
+        HALVED_LINE,
+    ),
+    // the whole and its four pieces
+    (
+        &["prove", "a", "--boxes", "4"],
+        CUT,
+        Status::Limit,
+        "limit: more than 4 boxes\n",
+    ),
+    (
+        &["prove", "a", "--boxes", "5"],
+        CUT,
+        Status::Answered,
+        "x * ( 1 - x ) in [0, 3b-3]\n",
+    ),
+    // each piece is the first that is open
+    (
+        PROVE,
+        "{ x in [0,1] -> x <= 0.2 } $ x in 4;",
+        Status::Unproved,
+        "unproved: goal 1 at x in [0, 1b-2]\n",
+    ),
+    (
+        PROVE,
+        "{ x in [0,1] -> x <= 0.3 } $ x in 4;",
+        Status::Unproved,
+        "unproved: goal 1 at x in [1b-2, 1b-1]\n",
+    ),
+    (
+        PROVE,
+        "{ x in [0,1] -> x <= 0.6 } $ x in 4;",
+        Status::Unproved,
+        "unproved: goal 1 at x in [1b-1, 3b-2]\n",
+    ),
+    (
+        PROVE,
+        "{ x in [0,1] -> x <= 0.9 } $ x in 4;",
+        Status::Unproved,
+        "unproved: goal 1 at x in [3b-2, 1]\n",
+    ),
+    // a cut is made though the whole box settles the goal
+    (
+        PROVE,
+        "{ x in [0,1] -> x <= 1 } $ x in 4;",
+        Status::Answered,
+        "x in [0, 1]\n",
+    ),
+    (
+        &["prove", "a", "--boxes", "4"],
+        "{ x in [0,1] -> x <= 1 } $ x in 4;",
+        Status::Limit,
+        "limit: more than 4 boxes\n",
+    ),
+];
+
+#[test]
+fn boxes_are_counted_and_named(rt: HostRuntime) -> Result<(), Fail> {
+    for (words, text, status, line) in BOXES {
+        words_end(&rt, rt.alloc(), words, text.as_bytes(), status, line)?;
+    }
+    Ok(())
+}
+
 // scripts that would need the engine, and are refused
 const REFUSED: [(&str, &str); 6] = [
     (
