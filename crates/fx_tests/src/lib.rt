@@ -30,6 +30,8 @@ mod refusals;
 #[cfg(test)]
 mod runs;
 #[cfg(test)]
+mod second_version;
+#[cfg(test)]
 mod shared;
 #[cfg(test)]
 mod words;
