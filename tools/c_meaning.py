@@ -74,7 +74,7 @@ class Meaning:
         self.written, self.steps, self.words = {}, 0, words
         top = {}
         for name, values, kind in r.tables:
-            top[name] = [Cell(kind, (x, x, None, False)) for x in values]
+            top[name] = [Cell(kind, (x, x, None, True)) for x in values]
         for name, kind in r.globals:
             top[name] = self.made(kind, name, words)
         scope = {}

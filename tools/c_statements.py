@@ -174,10 +174,11 @@ class Run(Expressions, Places):
             if self.here is None or fault.where is e:
                 raise
             raise Refused(self.here, "within the helper %s: %s" % (name, fault.what))
+        finally:
+            self.scopes = outer
         self.here = here
         self.calls.pop()
         self.frame -= 1
-        self.scopes = outer
         for key in [k for k in self.env if k[0].frame > self.frame]:
             del self.env[key]
         if self.stores != before and id(e) not in self.unit.alone:
@@ -385,6 +386,7 @@ class Run(Expressions, Places):
         """A block, or a for with what it declares: its names end with it."""
         scope, used, wrote = {}, len(self.touched), len(self.modified)
         self.scopes.append(scope)
+        refused = False
         try:
             some = s.block_items or [] if isinstance(s, C.Compound) else \
                 s.init.decls if isinstance(s.init, C.DeclList) else [s.init] if s.init else []
@@ -395,9 +397,13 @@ class Run(Expressions, Places):
                     self.run(it)
             if isinstance(s, C.For):
                 self.loop(s)
+        except Refused:
+            refused = True
+            raise
         finally:
             self.scopes.pop()
-            self.broken(scope.values(), used, wrote, s)
+            if not refused:
+                self.broken(scope.values(), used, wrote, s)
             gone = {thing for thing in scope.values() if not thing.outer}
             for key in [k for k in self.env if k[0] in gone]:
                 del self.env[key]

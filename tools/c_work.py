@@ -264,9 +264,11 @@ class Work:
             name = "%d_%s_way%d_error.fx" % (k + 1, n.name, number + 1)
             found = self.prover.interval(path, claim, name, n.branch, conds,
                                          twin_hints(path, v, None), known)
-            if found is None or width(found) == float("inf") and found != "empty":
+            if found == "empty":
+                continue
+            if found is None or width(found) == float("inf"):
                 return False
-            ends += [found] if found != "empty" else []
+            ends.append(found)
         low = min(ends, key=lambda e: exact(e)[0], default=ZERO)[0]
         high = max(ends, key=lambda e: exact(e)[1], default=ZERO)[1]
         known[id(n)] = low, high

@@ -447,6 +447,8 @@ class Refusals(Case):
         ("int32_t f(int32_t a)\n{\n    return g(a);\n}\n", "it.c:4:12", "a call of g"),
         ("int32_t f(int32_t a)\n{\n    int32_t b;\n    return a + b;\n}\n", "it.c:5:16",
          "no value"),
+        ("static int32_t g(int32_t a)\n{\n    return a ^ 5;\n}\nint32_t f(int32_t a)\n{\n"
+         "    {{{ a = g(a); }}}\n    return a;\n}\n", "it.c:4:12", "overlap"),
         ("#define TWICE(x) ((x) * 2 + y)\nint32_t f(int32_t a)\n{\n    return 1 + TWICE(a);\n}\n",
          "it.c:5:16", "y isn't known"),
         ("void f(int16_t *a, uint16_t *b)\n{\n    a[0] = (int16_t)b[1];\n}\n", "it.c:2:29",
