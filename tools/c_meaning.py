@@ -372,8 +372,10 @@ class Meaning:
                 scope[p.name] = Cell(p.sort, self.far(self.fits(self.value(a), p.sort)))
         outer, line = self.scopes, self.line
         self.scopes = [self.top, scope]
-        value = self.body(f.body, f.back)
-        self.scopes, self.line = outer, line
+        try:
+            value = self.body(f.body, f.back)
+        finally:
+            self.scopes, self.line = outer, line
         return self.far(value) if value is not None else None
 
     # -- statements
