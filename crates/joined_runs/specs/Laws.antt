@@ -87,9 +87,9 @@ pub record HasUpgraded (a : AskedUpgrade) (r : Run) (cert bytes : Bytes) : Type 
   pub held : r.before.told a.new ≡ Some old
   pub holds : r.after.told a.new ≡ Some bytes
 
--- A run of `check` answered the old certificate for a script's text. Then `check` answers what
--- `upgrade` wrote for that text, or else a fault of the outside comes, or lack of memory; and its
--- lines are the same.
+-- A run of `check` answered the old certificate, whose numbers are bytes, for a script's text. Then
+-- `check` answers what `upgrade` wrote for that text, or else a fault of the outside comes, or lack
+-- of memory; and its lines are the same.
 abbrev pub UpgradedAreAnswered : Type 0
 UpgradedAreAnswered = (a : AskedUpgrade) (b c : AskedCheck) (r q p : Run)
     → (text cert bytes : Bytes) → AreBytes cert → HasUpgraded a r cert bytes

@@ -32,7 +32,7 @@ pub fn trimmed_certificates_are_answered()
 }
 
 /// The law that `check` answers what `upgrade` wrote for each script for which it answered the old
-/// certificate, with the same lines. Nothing is done.
+/// certificate, whose numbers are bytes, with the same lines. Nothing is done.
 pub fn upgraded_certificates_are_answered()
     ensures { UpgradedAreAnswered }
 {
