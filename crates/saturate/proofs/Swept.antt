@@ -1,4 +1,5 @@
--- The table of a sweep: what a conclusion leaves of it, and what it is where no instance is due.
+-- The facts of a sweep: what a conclusion leaves of them, and what they are where no instance is
+-- due.
 use lib.ListN.{replicate}
 use Rattle.std.specs.Prelude.{◌≡◌, ◌≢◌, ◌⊎◌, ◌<◌, ◌≤◌, ◌+◌, ◌-◌, ℕ, zero, suc, Bool, true, false}
 use Rattle.std.specs.Prelude.{List, [], ◌∷◌, Some, None, length, slice_get, slice_set, Contains}
@@ -20,7 +21,7 @@ use Rattle.facts.specs.Promises.{EachStronger}
 use Rattle.derivation.specs.Lists.{IsLawful, RuleList, IsOnTargetList}
 use Rattle.derivation.specs.Derivations.{Setting, Derives, DeriveEach, given, drawn, met, none}
 use Rattle.derivation.specs.Derivations.{next, At, Beats, IsClosed}
-use Rattle.derivation.specs.Rounds.{IsProper, IsSame, InTable, Grows, Improves, all_at, concluded}
+use Rattle.derivation.specs.Rounds.{IsProper, InTable, Grows, Improves, all_at, concluded}
 use Rattle.derivation.specs.Rounds.{conclusion, IsBestFrom}
 use Rattle.derivation.proofs.Rounds.{Reads}
 use Rattle.derivation.specs.Changes.{IsUser, IsQuiet}
@@ -36,38 +37,30 @@ use Rattle.rule_universe.specs.Places.{IsPlace, place_count}
 use Rattle.rule_universe.specs.Placed.{slots_of, ArePlaced}
 use Rattle.rule_universe.proofs.OnePlace.{place_within, place_once, slot_once}
 use Rattle.rule_universe.specs.Worlds.{World}
-use Rattle.saturate.specs.declared.kept.Table.{Table}
-use Rattle.saturate.specs.Tables.{fact_at, IsShaped}
-use Rattle.saturate.specs.Universes.{HasAllPlaces}
 use Rattle.saturate.specs.Closed.{IsClosedUnder}
 use Rattle.saturate.proofs.Lists.{get_set_here, get_set_there}
-use Rattle.saturate.specs.Sweeping.{IsSwept, IsSweeping, IsQuietApart, NoneDue}
-use Rattle.saturate.proofs.Places.{fact_at_proper}
-use Rattle.saturate.proofs.Slots.{shaped_room}
+use Rattle.saturate.specs.Sweeping.{IsSwept, IsSweeping, IsQuietApart, IsEnded, NoneDue}
 
 -- ---- the start
 pub length_zeros : (n : ℕ) → length {A = ℕ} (replicate n 0) ≡ n
 length_zeros zero = refl
 length_zeros (suc n) = ap suc (length_zeros n)
 
--- A sweep begins with a copy of the table, and no height beside any slot.
-pub sweeping_start : (s : Setting) (u : World) (height : ℕ) (start copy : Table)
-    → IsSame (fact_at start) (fact_at copy) → HasAllPlaces u copy → fact_at start slot.Void ≡ None
-    → (due : List Bool) → length due ≡ length s.instances → IsQuiet s due (fact_at start)
+-- A sweep begins with the first table, whatever heights stand beside its slots.
+pub sweeping_start : (s : Setting) (u : World) (height : ℕ) (first : At) → first slot.Void ≡ None
+    → (due : List Bool) → length due ≡ length s.instances → IsQuiet s due first
     → (heights : List ℕ) → length heights ≡ place_count (length u.nodes) u.pairs
-    → IsSweeping s u (fact_at start) height copy heights due
-sweeping_start s u height start copy same places no_void due long quiet heights count = record {
+    → IsSweeping s u first height first heights due
+sweeping_start s u height first no_void due long quiet heights count = record {
   swept = record {
-    places = places;
-    no_void = same slot.Void ∙ no_void;
-    grows = λ x f e. (f, same x ∙ e, IsStronger-refl f);
-    within = λ x f e. given (x, sym (same x) ∙ e);
-    each = λ x f p h e at_p there. given (x, sym (same x) ∙ e);
+    no_void = no_void;
+    grows = λ x f e. (f, e, IsStronger-refl f);
+    within = λ x f e. given (x, e);
+    each = λ x f p h e at_p there. given (x, e);
     count = count;
   };
   long = long;
-  quiet = (let both : fact_at start ≡ fact_at copy = (λ k x. sym (same x) k) in
-      subst (IsQuiet s due) both quiet);
+  quiet = quiet;
 }
 
 -- ---- heights
@@ -94,22 +87,21 @@ derived_kept s G r at new c f come d old =
 
 -- ---- an instance concludes a fact that the table doesn't beat
 module _ (s : Setting) (u : World) (once : IsEachOnce u.pairs) (first : At) (height : ℕ)
-    (t new : Table) (heights : List ℕ) (w : IsSwept s u first height t heights) (c f : Fact)
-    (come : Improves (fact_at t) (fact_at new) c f) (no_void : fact_at new slot.Void ≡ None)
-    (shape : IsShaped t new) (place above old r : ℕ)
+    (at new : At) (heights : List ℕ) (w : IsSwept s u first height at heights) (c f : Fact)
+    (come : Improves at new c f) (no_void : new slot.Void ≡ None) (place above old r : ℕ)
     (placed : IsPlace (length u.nodes) u.pairs (slot_of c) place)
     (there : slice_get heights place ≡ Some old) (d : Derives s (InTable first) above c)
     (fits : above ≤ height) (low : above ≤ r)
-    (enough : (g : Fact) → fact_at new (slot_of c) ≡ Some g → IsStronger c g ⊎ (old ≤ r)) where
+    (enough : (g : Fact) → new (slot_of c) ≡ Some g → IsStronger c g ⊎ (old ≤ r)) where
   same_slot : slot_of f ≡ slot_of c
-  same_slot = improved_slot (fact_at t) (fact_at new) c f come no_void
+  same_slot = improved_slot at new c f come no_void
 
-  stands : fact_at new (slot_of c) ≡ Some f
-  stands = ap (fact_at new) (sym same_slot) ∙ come.written.here
+  stands : new (slot_of c) ≡ Some f
+  stands = ap new (sym same_slot) ∙ come.written.here
 
   -- within the height
   kept_within : Derives s (InTable first) height f
-  kept_within = derived_kept s (InTable first) height (fact_at t) (fact_at new) c f come
+  kept_within = derived_kept s (InTable first) height at new c f come
       (derives_within above height fits d) (w.within (slot_of c))
 
   -- within the height that is written
@@ -118,20 +110,20 @@ module _ (s : Setting) (u : World) (once : IsEachOnce u.pairs) (first : At) (hei
       elim (enough f stands) [
         | inl st ↦
             let e : f ≡ c = IsStronger-antisymm f c
-            (improved_stronger (fact_at t) (fact_at new) c f come) st in
+            (improved_stronger at new c f come) st in
             subst (Derives s (InTable first) r) (sym e) (derives_within above r low d)
-        | inr l ↦ derived_kept s (InTable first) r (fact_at t) (fact_at new) c f come
+        | inr l ↦ derived_kept s (InTable first) r at new c f come
             (derives_within above r low d)
             (λ g e. derives_within old r l (w.each (slot_of c) g place old e placed there))
       ]
 
   -- a fact of the new table is the kept one, or was there
   new_cases : (P : Slot → Fact → Type 0) → ((x : Slot) → x ≡ slot_of c → P x f)
-      → ((x : Slot) (g : Fact) → x ≢ slot_of c → fact_at t x ≡ Some g → P x g)
-      → (x : Slot) (g : Fact) → fact_at new x ≡ Some g → P x g
+      → ((x : Slot) (g : Fact) → x ≢ slot_of c → at x ≡ Some g → P x g)
+      → (x : Slot) (g : Fact) → new x ≡ Some g → P x g
   new_cases P here others x g e =
       elim (slot_cases x (slot_of c)) [
-        | inl q ↦ subst (P x) (some_same f g (fact_at new x) (ap (fact_at new) q ∙ stands) e)
+        | inl q ↦ subst (P x) (some_same f g (new x) (ap new q ∙ stands) e)
             (here x q)
         | inr n ↦ others x g n (sym (come.written.others x (λ q. n (q ∙ same_slot))) ∙ e)
       ]
@@ -141,11 +133,10 @@ module _ (s : Setting) (u : World) (once : IsEachOnce u.pairs) (first : At) (hei
 
   pub swept_more : IsSwept s u first height new (slice_set heights place r)
   swept_more = record {
-    places = shaped_room (length u.nodes) u.pairs t new shape w.places;
     no_void = no_void;
     grows = λ x g e.
         (let a = w.grows x g e in
-        let b = improved_grows (fact_at t) (fact_at new) c f come no_void x a.0 a.1 in
+        let b = improved_grows at new c f come no_void x a.0 a.1 in
         (b.0, b.1, IsStronger-trans b.0 a.0 g b.2 a.2));
     within = new_cases (λ x g. Derives s (InTable first) height g) (λ x q. kept_within)
         (λ x g n e. w.within x g e);
@@ -166,6 +157,32 @@ module _ (s : Setting) (u : World) (once : IsEachOnce u.pairs) (first : At) (hei
         x g e at_p there_p;
     count = length-set heights place r ∙ w.count;
   }
+
+-- ---- VOID came
+-- All is derived within the height then.
+pub swept_void : (s : Setting) (u : World) (first : At) (height : ℕ) (at new : At)
+    (heights : List ℕ) → IsSwept s u first height at heights → (c f : Fact) → Improves at new c f
+    → IsProper new → new slot.Void ≡ Some fact.Void → (above : ℕ)
+    → Derives s (InTable first) above c → above ≤ height → IsEnded s first height new
+swept_void s u first height at new heights w c f come proper void above d fits = (
+  record {
+    reached = λ x g e. (proper x g e, reach x g e);
+    least = λ v. absurd (none_some fact.Void (new slot.Void) v void);
+  },
+  void,
+)
+  where
+    kept : Derives s (InTable first) height f
+    kept = derived_kept s (InTable first) height at new c f come
+        (derives_within above height fits d) (w.within (slot_of c))
+
+    reach : (x : Slot) (g : Fact) → new x ≡ Some g → Derives s (InTable first) height g
+    reach x g e =
+        elim (slot_cases x (slot_of f)) [
+          | inl q ↦ subst (Derives s (InTable first) height)
+              (some_same f g (new x) (ap new q ∙ come.written.here) e) kept
+          | inr n ↦ w.within x g (sym (come.written.others x n) ∙ e)
+        ]
 
 -- ---- what is due
 flag_cases : (due : List Bool) (j : ℕ) → j < length due
@@ -250,59 +267,59 @@ pub read_some : (rules : RuleList) (at : At) (i : Instance) (row : List Placed) 
 read_some rules at i row ps same e = ap (concluded rules i) (ap (all_at at) (sym same) ∙ e)
 
 -- It concludes nothing, and is due no more.
-pub sweeping_none : (s : Setting) (u : World) (first : At) (height : ℕ) (t : Table)
-    (heights : List ℕ) (due : List Bool) → IsSweeping s u first height t heights due → (k : ℕ)
-    (i : Instance) → slice_get s.instances k ≡ Some i → conclusion s.rules (fact_at t) i ≡ None
-    → IsSweeping s u first height t heights (slice_set due k false)
-sweeping_none s u first height t heights due w k i here is = record {
+pub sweeping_none : (s : Setting) (u : World) (first : At) (height : ℕ) (at : At)
+    (heights : List ℕ) (due : List Bool) → IsSweeping s u first height at heights due → (k : ℕ)
+    (i : Instance) → slice_get s.instances k ≡ Some i → conclusion s.rules at i ≡ None
+    → IsSweeping s u first height at heights (slice_set due k false)
+sweeping_none s u first height at heights due w k i here is = record {
   swept = w.swept;
   long = length-set due k false ∙ w.long;
-  quiet = quiet_idle s k (slice_set due k false) (fact_at t)
-      (quiet_apart s k due (fact_at t) w.quiet) (λ m b e x.
+  quiet = quiet_idle s k (slice_set due k false) at
+      (quiet_apart s k due at w.quiet) (λ m b e x.
       let mi : i ≡ m = some_same i m (slice_get s.instances k) here e in
-      absurd (none_some b (conclusion s.rules (fact_at t) m)
-      (subst (λ (n : Instance). conclusion s.rules (fact_at t) n ≡ None) mi is) x));
+      absurd (none_some b (conclusion s.rules at m)
+      (subst (λ (n : Instance). conclusion s.rules at n ≡ None) mi is) x));
 }
 
 module _ (s : Setting) (u : World) (once : IsEachOnce u.pairs) (on_target : IsOnTargetList s.rules)
-    (first : At) (height : ℕ) (t : Table) (heights : List ℕ)
-    (w : IsSwept s u first height t heights) (k : ℕ) (i : Instance)
+    (first : At) (height : ℕ) (at : At) (heights : List ℕ)
+    (w : IsSwept s u first height at heights) (k : ℕ) (i : Instance)
     (here : slice_get s.instances k ≡ Some i) (c : Fact)
-    (is : conclusion s.rules (fact_at t) i ≡ Some c) (due : List Bool)
-    (apart : IsQuietApart s k due (fact_at t)) (long : length due ≡ length s.instances) where
+    (is : conclusion s.rules at i ≡ Some c) (due : List Bool)
+    (apart : IsQuietApart s k due at) (long : length due ≡ length s.instances) where
   -- The table has it already.
-  pub sweeping_same : (f : Fact) → Improves (fact_at t) (fact_at t) c f
-      → IsSweeping s u first height t heights due
+  pub sweeping_same : (f : Fact) → Improves at at c f
+      → IsSweeping s u first height at heights due
   sweeping_same f come = record {
     swept = w;
     long = long;
-    quiet = quiet_idle s k due (fact_at t) apart (λ m b e x.
+    quiet = quiet_idle s k due at apart (λ m b e x.
         let mi : i ≡ m = some_same i m (slice_get s.instances k) here e in
-        let cb : c ≡ b = some_same c b (conclusion s.rules (fact_at t) m)
-        (subst (λ (n : Instance). conclusion s.rules (fact_at t) n ≡ Some c) mi is) x in
-        subst (Beats (fact_at t)) cb (improved_beats (fact_at t) (fact_at t) c f come w.no_void));
+        let cb : c ≡ b = some_same c b (conclusion s.rules at m)
+        (subst (λ (n : Instance). conclusion s.rules at n ≡ Some c) mi is) x in
+        subst (Beats at) cb (improved_beats at at c f come w.no_void));
   }
 
   -- It comes to the table, and so does a height beside it; those that take it are due.
-  pub sweeping_more : (new : Table) (f : Fact) → Improves (fact_at t) (fact_at new) c f
-      → fact_at new slot.Void ≡ None → IsShaped t new → (place above old r : ℕ)
+  pub sweeping_more : (new : At) (f : Fact) → Improves at new c f
+      → new slot.Void ≡ None → (place above old r : ℕ)
       → IsPlace (length u.nodes) u.pairs i.target place → slice_get heights place ≡ Some old
       → Derives s (InTable first) above c → above ≤ height → above ≤ r
-      → ((g : Fact) → fact_at new (slot_of c) ≡ Some g → IsStronger c g ⊎ (old ≤ r))
+      → ((g : Fact) → new (slot_of c) ≡ Some g → IsStronger c g ⊎ (old ≤ r))
       → (after : List Bool) → length after ≡ length due
       → ((j : ℕ) → slice_get due j ≡ Some true → slice_get after j ≡ Some true)
       → ((x : Slot) → IsPlace (length u.nodes) u.pairs x place → (j : ℕ)
       → IsUser s.instances x j → slice_get after j ≡ Some true)
       → IsSweeping s u first height new (slice_set heights place r) after
-  sweeping_more new f come no_void shape place above old r p there d fits low enough after same
+  sweeping_more new f come no_void place above old r p there d fits low enough after same
       kept marked =
-      let q = concluded_place s.rules on_target (fact_at t) (fact_at new) i c f is come no_void
+      let q = concluded_place s.rules on_target at new i c f is come no_void
       (length u.nodes) u.pairs place p in
       record {
-        swept = swept_more s u once first height t new heights w c f come no_void shape place above
+        swept = swept_more s u once first height at new heights w c f come no_void place above
             old r q there d fits low enough;
         long = same ∙ long;
-        quiet = quiet_more s k i due after (fact_at t) (fact_at new) c f come no_void here is apart
+        quiet = quiet_more s k i due after at new c f come no_void here is apart
             long kept (marked (slot_of c) q);
       }
 
@@ -325,13 +342,13 @@ slot_in (p ∷ row) x (suc i) l e =
     (r.0, (suc (r.1).0, (let m = (r.1).1 in omega (arith, m)), (r.1).2), r.2)
 
 -- premises are derived within the greatest of their heights
-pub premises_within : (s : Setting) (u : World) (first : At) (height : ℕ) (t : Table)
-    (heights : List ℕ) → IsSwept s u first height t heights → (ss : List Slot) (row : List Placed)
+pub premises_within : (s : Setting) (u : World) (first : At) (height : ℕ) (at : At)
+    (heights : List ℕ) → IsSwept s u first height at heights → (ss : List Slot) (row : List Placed)
     → ArePlaced (length u.nodes) u.pairs ss row → (top : ℕ)
     → ((p : Placed) (h : ℕ) → Contains row p → slice_get heights p.place ≡ Some h → h ≤ top)
-    → (x : Slot) → Contains ss x → (f : Fact) → fact_at t x ≡ Some f
+    → (x : Slot) → Contains ss x → (f : Fact) → at x ≡ Some f
     → Derives s (InTable first) top f
-premises_within s u first height t heights w ss row placed top most x c f e =
+premises_within s u first height at heights w ss row placed top most x c f e =
     let b = subst (λ l. Contains l x) (sym placed.slots) c in
     let r = slot_in row x b.0 b.1 b.2 in
     let at_p = placed.places r.0 r.1 in
@@ -407,11 +424,10 @@ module _ (s : Setting) (lawful : IsLawful s.rules) (whole : IsClosed s.instances
 
 -- The table is best then.
 pub swept_best : (s : Setting) → IsLawful s.rules → IsClosed s.instances → (u : World) (first : At)
-    → IsProper first → (height : ℕ) (t : Table) (heights : List ℕ)
-    → IsSwept s u first height t heights → IsClosedUnder s (fact_at t)
-    → IsBestFrom s first height (fact_at t)
-swept_best s lawful whole u first proper height t heights w closed = record {
-  reached = λ x f e. (fact_at_proper t x f e, w.within x f e);
-  least = λ v f d. all_beaten s lawful whole first (fact_at t) proper (fact_at_proper t) w.no_void
-      w.grows closed height f d;
+    → IsProper first → (height : ℕ) (at : At) → IsProper at → (heights : List ℕ)
+    → IsSwept s u first height at heights → IsClosedUnder s at → IsBestFrom s first height at
+swept_best s lawful whole u first proper_first height at proper heights w closed = record {
+  reached = λ x f e. (proper x f e, w.within x f e);
+  least = λ v f d. all_beaten s lawful whole first at proper_first proper w.no_void w.grows closed
+      height f d;
 }

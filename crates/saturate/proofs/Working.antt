@@ -264,7 +264,13 @@ module _ (s : Setting) (u : World) where
         }
 
 -- ---- what callers are told
+-- The word of a sweep is right of the table.
+pub said_unless : (s : Setting) (t : Table) (b : Bool)
+    → (IsTrue b → fact_at t slot.Void ≡ None → IsClosedUnder s (fact_at t))
+    → IsMarked s (record t { closed = b })
+said_unless s t b closed said v = subst (IsClosedUnder s) (said_at t b) (closed said v)
+
 -- The word of the rounds is right of the table.
 pub said_marked : (s : Setting) (t : Table) (b : Bool)
     → (IsTrue b → IsClosedUnder s (fact_at t)) → IsMarked s (record t { closed = b })
-said_marked s t b closed said v = subst (IsClosedUnder s) (said_at t b) (closed said)
+said_marked s t b closed = said_unless s t b (λ said v. closed said)

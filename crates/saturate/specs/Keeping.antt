@@ -6,13 +6,15 @@ use Rattle.facts.specs.declared.fact.Slot.TheVariants as slot
 use Rattle.facts.specs.declared.fact.Fact.TheVariants as fact
 use Rattle.facts.specs.declared.instance.Instance.{Instance}
 use Rattle.derivation.specs.Derivations.{Setting, At, Beats}
-use Rattle.derivation.specs.Rounds.{conclusion, IsAhead, AllSeen}
+use Rattle.derivation.specs.Rounds.{conclusion, IsAhead, AllSeen, Improves}
 use Rattle.derivation.specs.Changes.{IsListed}
 use Rattle.derivation.specs.Counts.{AreRisen}
 use Rattle.rule_universe.specs.declared.placed.Placed.{Placed}
 use Rattle.rule_universe.specs.Placed.{slots_of, IsPlaced}
 use Rattle.rule_universe.specs.Places.{IsPlace}
 use Rattle.rule_universe.specs.Worlds.{World}
+use Rattle.saturate.specs.declared.taken.Taken.{Taken}
+use Rattle.saturate.specs.declared.taken.Taken.TheVariants as taken
 use Rattle.saturate.specs.Rules.{Rules}
 
 -- ---- one instance
@@ -27,6 +29,15 @@ IsConcludedBy rules u at k place c =
 abbrev pub IsIdle : Rules → World → At → ℕ → Type 0
 IsIdle rules u at k = (i : Instance) (c : Fact) → slice_get u.instances k ≡ Some i
     → conclusion (rules u.nodes u.hints) at i ≡ Some c → Beats at c
+
+-- What became of a fact that came to the first table: it came to the second, which is the first
+-- where nothing changed, and has VOID just where that is said; or there was no room.
+abbrev pub IsTaken : Taken → At → At → Fact → Type 0
+IsTaken taken.Same at new c = (new ≡ at) × ((k : Fact) × Improves at new c k)
+IsTaken taken.More at new c = (new slot.Void ≡ None) × ((k : Fact) × Improves at new c k)
+IsTaken taken.Void at new c =
+    (new slot.Void ≡ Some fact.Void) × ((k : Fact) × Improves at new c k)
+IsTaken taken.Full at new c = Unit {0}
 
 -- The first holds where it was found, and the second where it wasn't.
 abbrev pub InTurn : Bool → Type 0 → Type 0 → Type 0

@@ -1,21 +1,21 @@
--- The table of a sweep, where instances are applied to the table itself. Only private functions
--- cite these.
+-- The facts of a sweep, where instances are applied to what is known as it stands. Only private
+-- functions cite these.
 use Rattle.std.specs.Prelude.{◌≡◌, ◌≢◌, ◌≤◌, ◌+◌, ◌-◌, ℕ, Bool, true, false, List, Option, Some}
 use Rattle.std.specs.Prelude.{None, length, slice_get, Contains}
 use Rattle.facts.specs.declared.fact.Fact.{Fact}
 use Rattle.facts.specs.declared.fact.Slot.{Slot}
+use Rattle.facts.specs.declared.fact.Fact.TheVariants as fact
 use Rattle.facts.specs.declared.fact.Slot.TheVariants as slot
 use Rattle.facts.specs.declared.instance.Instance.{Instance}
 use Rattle.derivation.specs.Derivations.{Setting, At, Beats, Derives}
-use Rattle.derivation.specs.Rounds.{InTable, Grows, conclusion}
+use Rattle.derivation.specs.Rounds.{InTable, Grows, IsBestFrom, conclusion}
 use Rattle.derivation.specs.Changes.{IsQuiet}
 use Rattle.derivation.specs.Counted.{AreHeights, touched_by}
 use Rattle.rule_universe.specs.declared.placed.Placed.{Placed}
 use Rattle.rule_universe.specs.Places.{IsPlace, place_count}
 use Rattle.rule_universe.specs.Worlds.{World}
-use Rattle.saturate.specs.declared.kept.Table.{Table}
-use Rattle.saturate.specs.Tables.{fact_at}
-use Rattle.saturate.specs.Universes.{HasAllPlaces}
+use Rattle.saturate.specs.declared.taken.Course.{Course}
+use Rattle.saturate.specs.declared.taken.Course.TheVariants as course
 
 -- By place of a slot, a height within which its fact is derived from the facts of the first table.
 abbrev pub AreWithin : Setting → World → At → At → List ℕ → Type 0
@@ -23,23 +23,32 @@ AreWithin s u first at heights = (x : Slot) (f : Fact) (p h : ℕ) → at x ≡ 
     → IsPlace (length u.nodes) u.pairs x p → slice_get heights p ≡ Some h
     → Derives s (InTable first) h f
 
--- The table has no less than the first, each of its facts is derived from those within the height,
--- and beside each stands a height that serves, too.
-pub record IsSwept (s : Setting) (u : World) (first : At) (height : ℕ) (t : Table)
+-- The table has no less than the first, and not VOID; each of its facts is derived from those
+-- within the height, and beside each stands a height that serves, too.
+pub record IsSwept (s : Setting) (u : World) (first : At) (height : ℕ) (at : At)
     (heights : List ℕ) : Type 0 where
-  pub places : HasAllPlaces u t
-  pub no_void : fact_at t slot.Void ≡ None
-  pub grows : Grows first (fact_at t)
-  pub within : (x : Slot) (f : Fact) → fact_at t x ≡ Some f → Derives s (InTable first) height f
-  pub each : AreWithin s u first (fact_at t) heights
+  pub no_void : at slot.Void ≡ None
+  pub grows : Grows first at
+  pub within : (x : Slot) (f : Fact) → at x ≡ Some f → Derives s (InTable first) height f
+  pub each : AreWithin s u first at heights
   pub count : length heights ≡ place_count (length u.nodes) u.pairs
 
 -- Besides, each instance that isn't due concludes nothing that the table doesn't beat.
-pub record IsSweeping (s : Setting) (u : World) (first : At) (height : ℕ) (t : Table)
+pub record IsSweeping (s : Setting) (u : World) (first : At) (height : ℕ) (at : At)
     (heights : List ℕ) (due : List Bool) : Type 0 where
-  pub swept : IsSwept s u first height t heights
+  pub swept : IsSwept s u first height at heights
   pub long : length due ≡ length s.instances
-  pub quiet : IsQuiet s due (fact_at t)
+  pub quiet : IsQuiet s due at
+
+-- VOID is known, and the table is best.
+abbrev pub IsEnded : Setting → At → ℕ → At → Type 0
+IsEnded s first height at = IsBestFrom s first height at × (at slot.Void ≡ Some fact.Void)
+
+-- The first holds where the sweep goes on, and the second where it ended well.
+abbrev pub IsCourse : Course → Type 0 → Type 0 → Type 0
+IsCourse course.On Going Ended = Going
+IsCourse course.Best Going Ended = Ended
+IsCourse course.Lost Going Ended = Unit {0}
 
 -- The same of each instance but this one.
 abbrev pub IsQuietApart : Setting → ℕ → List Bool → At → Type 0

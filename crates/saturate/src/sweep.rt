@@ -1,7 +1,7 @@
-//! A sweep: instances in one fixed order, whose conclusions come to the table itself. So what
-//! changed goes through a chain of instances at once, where a round takes it one further.
+//! A sweep: instances in one fixed order, whose conclusions come at once. So what changed goes
+//! through a chain of instances at once, where a round takes it one further.
 ghost use Rattle.std.specs.Prelude.{◌≡◌, ◌⊎◌, ◌<◌, ◌≤◌, ◌+◌, ℕ, suc, Some, None, IsTrue, IfOk};
-ghost use Rattle.std.specs.Prelude.{OnOk, length, slice_get, Contains, replicate};
+ghost use Rattle.std.specs.Prelude.{IfSome, OnOk, length, slice_get, Contains, replicate, false};
 ghost use Rattle.facts.specs.declared.fact.Fact.{Fact as Conclusion};
 ghost use Rattle.facts.specs.declared.fact.Slot.TheVariants as slot;
 ghost use Rattle.facts.specs.Order.{slot_of, IsStronger};
@@ -9,20 +9,20 @@ ghost use Rattle.derivation.specs.Derivations.{At, Derives};
 ghost use Rattle.derivation.specs.Rounds.{InTable, all_at, IsBestFrom};
 ghost use Rattle.derivation.specs.Changes.{IsQuiet};
 ghost use Rattle.rule_universe.specs.declared.placed.Placed.{Placed as Placement};
-ghost use Rattle.rule_universe.specs.Placed.{slots_of};
-ghost use Rattle.saturate.specs.Tables.{fact_at, IsFoundAt};
-ghost use Rattle.saturate.specs.Universes.{setting_by, HasAllPlaces};
-ghost use Rattle.saturate.specs.Closed.{IsClosedUnder};
+ghost use Rattle.rule_universe.specs.Placed.{slots_of, IsPlaced};
+ghost use Rattle.rule_universe.specs.Places.{IsPlace, place_count};
+ghost use Rattle.saturate.specs.Universes.{setting_by};
+ghost use Rattle.saturate.specs.Closed.{IsClosedUnder, IsQuietBut};
 ghost use Rattle.saturate.specs.Keeping.{IsConcludedBy};
 ghost use Rattle.saturate.specs.Sweeping.{IsSwept, IsSweeping, IsQuietApart, IsRead, AreAtMost};
-ghost use Rattle.saturate.specs.Sweeping.{NoneDue};
+ghost use Rattle.saturate.specs.Sweeping.{NoneDue, IsCourse, IsEnded};
 
 use crate::conclusions::Concludes;
-use crate::improve::improve;
 use crate::instances::{instance_at, target_place};
-use crate::kept::Table;
-use crate::marks::mark_users;
+use crate::marks::{mark_from, mark_users};
+use crate::sweeps::Sweeps;
 use crate::table::refill;
+use crate::taken::{Course, Taken};
 use facts::{Fact, Slot, slot, stronger};
 use rule_universe::{Placed, Universe};
 use std::alloc::{AllocError, Global};
@@ -32,8 +32,8 @@ const PASSES: u8 = 255;
 
 /// Memory for sweeps. What it holds doesn't matter to any call.
 #[derive(Drop)]
-pub(crate) struct SweepWork {
-    // Which instances may conclude more than the table has.
+pub struct SweepWork {
+    // Which instances may conclude more than is known.
     due: Vec<bool>,
     // By place of a slot, a height within which its fact is derived.
     heights: Vec<u8>,
@@ -42,8 +42,8 @@ pub(crate) struct SweepWork {
 }
 
 impl SweepWork {
-    // Asks for no memory yet.
-    pub(crate) fn new(alloc: Global) -> SweepWork {
+    /// Asks for no memory yet.
+    pub fn new(alloc: Global) -> SweepWork {
         SweepWork {
             due: Vec::new(alloc),
             heights: Vec::new(alloc),
@@ -51,15 +51,38 @@ impl SweepWork {
         }
     }
 
-    // Makes it ready for a sweep that begins with these instances, over so many places.
-    fn begin(&mut self, due: &[bool], places: usize) -> Result<(), AllocError>
-        ensures { OnOk result ((self.new.due.items ≡ due.now)
-            × (self.new.heights.items ≡ replicate places 0)) }
+    // Nothing is derived by any instance so far.
+    fn flatten(&mut self, uni: &Universe) -> Result<(), AllocError>
+        ensures heights { OnOk result (self.new.heights.items
+            ≡ replicate (place_count (length uni.now.nodes) uni.now.pairs) 0) }
+        ensures due { self.new.due ≡ self.old.due }
+    {
+        uni.laws();
+        self.heights.clear();
+        self.heights.resize(uni.place(Slot::Void) as usize + 1, 0)?;
+        Ok(())
+    }
+
+    // Makes it ready for a sweep that begins with these instances.
+    pub(crate) fn begin_with(&mut self, uni: &Universe, due: &[bool]) -> Result<(), AllocError>
+        ensures due { OnOk result (self.new.due.items ≡ due.now) }
+        ensures heights { OnOk result (self.new.heights.items
+            ≡ replicate (place_count (length uni.now.nodes) uni.now.pairs) 0) }
     {
         refill(&mut self.due, due)?;
-        self.heights.clear();
-        self.heights.resize(places, 0)?;
-        Ok(())
+        self.flatten(uni)
+    }
+
+    // Makes it ready for a sweep that begins with no instance.
+    fn begin(&mut self, uni: &Universe) -> Result<(), AllocError>
+        ensures due { OnOk result (self.new.due.items
+            ≡ replicate (length uni.now.instances) false) }
+        ensures heights { OnOk result (self.new.heights.items
+            ≡ replicate (place_count (length uni.now.nodes) uni.now.pairs) 0) }
+    {
+        self.due.clear();
+        self.due.resize(uni.instances().len(), false)?;
+        self.flatten(uni)
     }
 }
 
@@ -87,23 +110,25 @@ fn none_due(due: &[bool]) -> bool
 // Reads the facts of premises, and gives the greatest of their heights; nothing where one of them
 // is missing.
 #[inline(always)]
-fn read(
+fn read<C: Concludes, K: Sweeps<C>>(
+    uni: &Universe,
     placed: &[Placed],
-    table: &Table,
+    kept: &K,
     heights: &[u8],
     premises: &mut Vec<Fact>,
 ) -> Result<Option<u8>, AllocError>
+    requires fits { K.fits uni.now kept.now }
     requires within { (p : Placement) → Contains placed.now p → p.place < length heights.now }
-    requires found { (p : Placement) → Contains placed.now p
-        → IsFoundAt table.now p.slot p.place }
-    ensures read { IfOk result (λ top.
-        IsRead top (all_at (fact_at table.now) (slots_of placed.now)) premises.new.items) }
+    requires placed { (p : Placement) → Contains placed.now p
+        → IsPlaced (length uni.now.nodes) uni.now.pairs p }
+    ensures read { IfOk result (λ top. IsRead top
+        (all_at (K.facts uni.now kept.now) (slots_of placed.now)) premises.new.items) }
     ensures heights { IfOk result (λ top. AreAtMost top heights.now placed.now) }
 {
     premises.clear();
     let mut top = 0u8;
     for p in placed {
-        match table.strongest_at(*p) {
+        match kept.fact_on(uni, *p) {
             Some(f) => premises.push(f)?,
             None => return Ok(None),
         }
@@ -115,17 +140,25 @@ fn read(
 // A height within which what stands on the slot of c now is derived, where c is within so much and
 // what stood there before within `old`. Where c alone stands there, `old` doesn't matter.
 #[inline(always)]
-fn height_now(table: &Table, c: &Fact, place: u16, above: u8, old: u8) -> u8
-    requires { IsFoundAt table.now (slot_of c.now) place }
+fn height_now<C: Concludes, K: Sweeps<C>>(
+    uni: &Universe,
+    kept: &K,
+    c: &Fact,
+    place: u16,
+    above: u8,
+    old: u8,
+) -> u8
+    requires fits { K.fits uni.now kept.now }
+    requires placed { IsPlace (length uni.now.nodes) uni.now.pairs (slot_of c.now) place }
     ensures above { above ≤ result }
-    ensures old { (f : Conclusion) → fact_at table.now (slot_of c.now) ≡ Some f
+    ensures old { (f : Conclusion) → K.facts uni.now kept.now (slot_of c.now) ≡ Some f
         → IsStronger c.now f ⊎ (old ≤ result) }
 {
     let placed = Placed {
         slot: slot(c),
         place,
     };
-    match table.strongest_at(placed) {
+    match kept.fact_on(uni, placed) {
         Some(f) => {
             if stronger(c, &f) {
                 above
@@ -138,155 +171,223 @@ fn height_now(table: &Table, c: &Fact, place: u16, above: u8, old: u8) -> u8
 }
 
 // Takes what the instance with this number concluded from premises of this height, whose target has
-// this place. It is false where that is past the height, or VOID is found.
+// this place.
 #[inline(always)]
-fn take<C: Concludes>(
+fn take<C: Concludes, K: Sweeps<C>>(
     uni: &Universe,
     k: usize,
     place: u16,
     c: Fact,
     top: u8,
     height: u8,
-    table: &mut Table,
-    sweep: &mut SweepWork,
-) -> bool
+    kept: &mut K,
+    work: &mut SweepWork,
+) -> Result<Course, AllocError>
+    requires fits { K.fits uni.now kept.old }
     requires swept { (first : At) × IsSwept (setting_by C.rules uni.now) uni.now first height
-        table.old sweep.old.heights.items }
-    requires long { length sweep.old.due.items ≡ length uni.now.instances }
-    requires concluded { IsConcludedBy C.rules uni.now (fact_at table.old) k place c }
-    ensures { IsTrue result → (first : At)
-        → IsSwept (setting_by C.rules uni.now) uni.now first height table.old
-        sweep.old.heights.items
+        (K.facts uni.now kept.old) work.old.heights.items }
+    requires long { length work.old.due.items ≡ length uni.now.instances }
+    requires concluded { IsConcludedBy C.rules uni.now (K.facts uni.now kept.old) k place c }
+    ensures taken { IfOk result (λ course. (first : At)
+        → IsSwept (setting_by C.rules uni.now) uni.now first height (K.facts uni.now kept.old)
+        work.old.heights.items
         → Derives (setting_by C.rules uni.now) (InTable first) (suc top) c
-        → IsQuietApart (setting_by C.rules uni.now) k sweep.old.due.items (fact_at table.old)
-        → IsSweeping (setting_by C.rules uni.now) uni.now first height table.new
-        sweep.new.heights.items sweep.new.due.items }
+        → IsQuietApart (setting_by C.rules uni.now) k work.old.due.items
+        (K.facts uni.now kept.old)
+        → IsCourse course (IsSweeping (setting_by C.rules uni.now) uni.now first height
+        (K.facts uni.now kept.new) work.new.heights.items work.new.due.items)
+        (IsEnded (setting_by C.rules uni.now) first height (K.facts uni.now kept.new))) }
+    ensures fits { IfOk result (λ _. K.fits uni.now kept.new) }
+    ensures came { IfOk result (λ _. (first : K)
+        → K.came uni.now first kept.old → K.came uni.now first kept.new) }
 {
     uni.laws();
     C::rules_are_lawful();
-    let Some(_) = improve(table, c, place) else {
-        return true;
-    };
-    if table.void || top >= height {
-        return false;
+    K::sweeps_are_whole();
+    let taken = kept.take(uni, k, place, c)?;
+    match taken {
+        Taken::Same => Ok(Course::On),
+        Taken::More => {
+            if top >= height {
+                return Ok(Course::Lost);
+            }
+            let old = work.heights[place as usize];
+            work.heights[place as usize] = height_now::<C, K>(uni, kept, &c, place, top + 1, old);
+            mark_users(&mut work.due, uni.users_at(place));
+            Ok(Course::On)
+        }
+        Taken::Void => {
+            if top < height {
+                Ok(Course::Best)
+            } else {
+                Ok(Course::Lost)
+            }
+        }
+        Taken::Full => Ok(Course::Lost),
     }
-    let old = sweep.heights[place as usize];
-    sweep.heights[place as usize] = height_now(table, &c, place, top + 1, old);
-    mark_users(&mut sweep.due, uni.users_at(place));
-    true
 }
 
-// Applies the instance with this number to the table, which is due no more then. It is false where
-// no steps are left, VOID is found or a height is passed.
+// Applies the instance with this number to what is known, and it is due no more then. The sweep
+// ends where no steps are left, VOID is found or a height is passed.
 #[inline(always)]
-fn visit<C: Concludes>(
+fn visit<C: Concludes, K: Sweeps<C>>(
     uni: &Universe,
     k: usize,
     height: u8,
-    table: &mut Table,
-    sweep: &mut SweepWork,
+    kept: &mut K,
+    work: &mut SweepWork,
     left: &mut usize,
     steps: &mut C,
-) -> Result<bool, AllocError>
+) -> Result<Course, AllocError>
     requires within { k < length uni.now.instances }
+    requires fits { K.fits uni.now kept.old }
     requires sweeping { (first : At) × IsSweeping (setting_by C.rules uni.now) uni.now first height
-        table.old sweep.old.heights.items sweep.old.due.items }
-    ensures visited { IfOk result (λ goes_on. IsTrue goes_on → (first : At)
-        → IsSweeping (setting_by C.rules uni.now) uni.now first height table.old
-        sweep.old.heights.items sweep.old.due.items
-        → IsSweeping (setting_by C.rules uni.now) uni.now first height table.new
-        sweep.new.heights.items sweep.new.due.items) }
+        (K.facts uni.now kept.old) work.old.heights.items work.old.due.items }
+    ensures visited { IfOk result (λ course. (first : At)
+        → IsSweeping (setting_by C.rules uni.now) uni.now first height (K.facts uni.now kept.old)
+        work.old.heights.items work.old.due.items
+        → IsCourse course (IsSweeping (setting_by C.rules uni.now) uni.now first height
+        (K.facts uni.now kept.new) work.new.heights.items work.new.due.items)
+        (IsEnded (setting_by C.rules uni.now) first height (K.facts uni.now kept.new))) }
+    ensures fits { IfOk result (λ _. K.fits uni.now kept.new) }
+    ensures came { IfOk result (λ _. (first : K)
+        → K.came uni.now first kept.old → K.came uni.now first kept.new) }
     ensures cost { C.asked steps.new + left.new ≤ C.asked steps.old + left.old }
 {
     uni.laws();
     C::rules_are_lawful();
-    sweep.due[k] = false;
+    K::sweeps_are_whole();
+    work.due[k] = false;
     let instance = instance_at(uni, k);
     let placed = uni.premises(k);
-    let Some(top) = read(placed, table, &sweep.heights, &mut sweep.premises)? else {
-        return Ok(true);
+    let read = read::<C, K>(uni, placed, kept, &work.heights, &mut work.premises)?;
+    let Some(top) = read else {
+        return Ok(Course::On);
     };
     if *left == 0 {
-        return Ok(false);
+        return Ok(Course::Lost);
     }
     *left -= 1;
     let place = target_place(uni, k);
-    match steps.conclude(uni.dag(), uni.hints(), instance, &sweep.premises) {
-        Some(c) => Ok(take::<C>(uni, k, place, c, top, height, table, sweep)),
-        None => Ok(true),
+    match steps.conclude(uni.dag(), uni.hints(), instance, &work.premises) {
+        Some(c) => take::<C, K>(uni, k, place, c, top, height, kept, work),
+        None => Ok(Course::On),
     }
 }
 
-// Goes once through the instances and applies those that are due. It is false where one of these
-// ended the sweep.
-fn pass<C: Concludes>(
+// Goes once through the instances and applies those that are due, up to one that ends the sweep.
+fn pass<C: Concludes, K: Sweeps<C>>(
     uni: &Universe,
     height: u8,
-    table: &mut Table,
-    sweep: &mut SweepWork,
+    kept: &mut K,
+    work: &mut SweepWork,
     left: &mut usize,
     steps: &mut C,
-) -> Result<bool, AllocError>
-    requires { (first : At) × IsSweeping (setting_by C.rules uni.now) uni.now first height
-        table.old sweep.old.heights.items sweep.old.due.items }
-    ensures passed { IfOk result (λ goes_on. IsTrue goes_on → (first : At)
-        → IsSweeping (setting_by C.rules uni.now) uni.now first height table.old
-        sweep.old.heights.items sweep.old.due.items
-        → IsSweeping (setting_by C.rules uni.now) uni.now first height table.new
-        sweep.new.heights.items sweep.new.due.items) }
+) -> Result<Course, AllocError>
+    requires fits { K.fits uni.now kept.old }
+    requires sweeping { (first : At) × IsSweeping (setting_by C.rules uni.now) uni.now first height
+        (K.facts uni.now kept.old) work.old.heights.items work.old.due.items }
+    ensures passed { IfOk result (λ course. (first : At)
+        → IsSweeping (setting_by C.rules uni.now) uni.now first height (K.facts uni.now kept.old)
+        work.old.heights.items work.old.due.items
+        → IsCourse course (IsSweeping (setting_by C.rules uni.now) uni.now first height
+        (K.facts uni.now kept.new) work.new.heights.items work.new.due.items)
+        (IsEnded (setting_by C.rules uni.now) first height (K.facts uni.now kept.new))) }
+    ensures fits { IfOk result (λ _. K.fits uni.now kept.new) }
+    ensures came { IfOk result (λ _. (first : K)
+        → K.came uni.now first kept.old → K.came uni.now first kept.new) }
     ensures cost { C.asked steps.new + left.new ≤ C.asked steps.old + left.old }
 {
     for k in uni.order() {
-        if sweep.due[*k as usize] {
-            let goes_on = visit(uni, *k as usize, height, table, sweep, left, steps)?;
-            if !goes_on {
-                return Ok(false);
+        if work.due[*k as usize] {
+            let course = visit::<C, K>(uni, *k as usize, height, kept, work, left, steps)?;
+            match course {
+                Course::On => {}
+                ended => return Ok(ended),
             }
         }
     }
-    Ok(true)
+    Ok(Course::On)
 }
 
-// Sweeps from the table, in another one, where instances that aren't due have nothing to add. It is
-// true where the other has the best facts of at most this height then, and no instance concludes
-// more. No more steps are taken than `budget`.
-pub(crate) fn sweep<C: Concludes>(
+// Sweeps where instances that aren't due have nothing to add. It is true where what is known is the
+// best of at most this height then, and no instance concludes more, unless VOID is known. No more
+// steps are taken than `budget`.
+pub(crate) fn sweep<C: Concludes, K: Sweeps<C>>(
     uni: &Universe,
-    start: &Table,
-    due: &[bool],
     height: u8,
     budget: usize,
-    table: &mut Table,
-    sweep: &mut SweepWork,
+    kept: &mut K,
+    work: &mut SweepWork,
     steps: &mut C,
 ) -> Result<bool, AllocError>
-    requires places { HasAllPlaces uni.now start.now }
-    requires no_void { fact_at start.now slot.Void ≡ None }
-    requires due { length due.now ≡ length uni.now.instances }
-    requires quiet { IsQuiet (setting_by C.rules uni.now) due.now (fact_at start.now) }
-    ensures best { IfOk result (λ closed. IsTrue closed
-        → IsBestFrom (setting_by C.rules uni.now) (fact_at start.now) height (fact_at table.new)) }
-    ensures closed { IfOk result (λ closed. IsTrue closed
-        → IsClosedUnder (setting_by C.rules uni.now) (fact_at table.new)) }
-    ensures places { IfOk result (λ closed. IsTrue closed → HasAllPlaces uni.now table.new) }
+    requires fits { K.fits uni.now kept.old }
+    requires no_void { K.facts uni.now kept.old slot.Void ≡ None }
+    requires due { length work.old.due.items ≡ length uni.now.instances }
+    requires heights { length work.old.heights.items
+        ≡ place_count (length uni.now.nodes) uni.now.pairs }
+    requires quiet { IsQuiet (setting_by C.rules uni.now) work.old.due.items
+        (K.facts uni.now kept.old) }
+    ensures best { IfOk result (λ best. IsTrue best → IsBestFrom (setting_by C.rules uni.now)
+        (K.facts uni.now kept.old) height (K.facts uni.now kept.new)) }
+    ensures closed { IfOk result (λ best. IsTrue best → K.facts uni.now kept.new slot.Void ≡ None
+        → IsClosedUnder (setting_by C.rules uni.now) (K.facts uni.now kept.new)) }
+    ensures fits { IfOk result (λ _. K.fits uni.now kept.new) }
+    ensures came { IfOk result (λ _. K.came uni.now kept.old kept.new) }
     ensures cost { C.asked steps.new ≤ C.asked steps.old + budget }
 {
     uni.laws();
     C::rules_are_lawful();
-    if uni.order().is_empty() {
-        return Ok(false);
-    }
-    start.copy_to(table)?;
-    sweep.begin(due, uni.place(Slot::Void) as usize + 1)?;
+    K::sweeps_are_whole();
     let mut left = budget;
     for _ in 0..PASSES {
-        let goes_on = pass(uni, height, table, sweep, &mut left, steps)?;
-        if !goes_on {
-            return Ok(false);
+        let course = pass::<C, K>(uni, height, kept, work, &mut left, steps)?;
+        match course {
+            Course::On => {}
+            Course::Best => return Ok(true),
+            Course::Lost => return Ok(false),
         }
-        if none_due(&sweep.due) {
+        if none_due(&work.due) {
             return Ok(true);
         }
     }
     Ok(false)
+}
+
+/// Lets come the best facts of at most this height over those that are kept, by a sweep, where only
+/// instances that take the changed slot, if there is one, may have something to add. It is true
+/// where it came to that. No more conclusions are asked for than `budget`.
+pub fn sweep_below<C: Concludes, K: Sweeps<C>>(
+    uni: &Universe,
+    kept: &mut K,
+    changed: Option<Slot>,
+    place: u16,
+    height: u8,
+    budget: usize,
+    work: &mut SweepWork,
+    steps: &mut C,
+) -> Result<bool, AllocError>
+    requires fits { K.fits uni.now kept.old }
+    requires no_void { K.facts uni.now kept.old slot.Void ≡ None }
+    requires placed { IfSome changed (λ s. IsPlace (length uni.now.nodes) uni.now.pairs s place) }
+    requires quiet { IsQuietBut (setting_by C.rules uni.now) changed (K.facts uni.now kept.old) }
+    // Where it's true, the facts are the best that derivations of this height conclude from those
+    // before.
+    ensures best { IfOk result (λ best. IsTrue best → IsBestFrom (setting_by C.rules uni.now)
+        (K.facts uni.now kept.old) height (K.facts uni.now kept.new)) }
+    // Then no instance concludes more, unless VOID is known.
+    ensures closed { IfOk result (λ best. IsTrue best → K.facts uni.now kept.new slot.Void ≡ None
+        → IsClosedUnder (setting_by C.rules uni.now) (K.facts uni.now kept.new)) }
+    ensures fits { IfOk result (λ _. K.fits uni.now kept.new) }
+    // They came by conclusions that came one after another.
+    ensures came { IfOk result (λ _. K.came uni.now kept.old kept.new) }
+    ensures cost { C.asked steps.new ≤ C.asked steps.old + budget }
+{
+    K::sweeps_are_whole();
+    if uni.order().is_empty() {
+        return Ok(false);
+    }
+    work.begin(uni)?;
+    mark_from(uni, changed, place, &mut work.due);
+    sweep(uni, height, budget, kept, work, steps)
 }

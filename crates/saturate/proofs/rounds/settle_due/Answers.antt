@@ -1,5 +1,6 @@
-use Rattle.std.proofs.Common.{true, IsTrue, rules, arith, ap, sym, subst, count_by}
+use Rattle.std.proofs.Common.{◌≡◌, None, true, IsTrue, rules, arith, ap, sym, subst, count_by}
 use Rattle.std.proofs.lemmas.List.Sums.{count_by-le-length}
+use Rattle.facts.specs.declared.fact.Slot.TheVariants as slot
 use Rattle.derivation.specs.Rounds.{IsBestFrom}
 use Rattle.derivation.specs.Changes.{IsQuiet}
 use Rattle.saturate.specs.declared.kept.Table.{Table}
@@ -7,17 +8,17 @@ use Rattle.saturate.specs.Tables.{fact_at}
 use Rattle.saturate.specs.Universes.{setting_by}
 use Rattle.saturate.specs.Closed.{IsClosedUnder}
 use Rattle.saturate.proofs.Closed.{said_at}
-use Rattle.saturate.proofs.Working.{said_marked}
+use Rattle.saturate.proofs.Working.{said_unless}
 use Rattle.saturate.proofs.rounds.settle_due.Goals as goal
 
-pub sweep-requires-clause-quiet : goal.sweep-requires-clause-quiet
-sweep-requires-clause-quiet g c =
+pub sweep_from-requires-clause-quiet : goal.sweep_from-requires-clause-quiet
+sweep_from-requires-clause-quiet g c =
     let s = setting_by g.C.Concludes.rules c.args.uni.now in
     subst (λ l. IsQuiet s l (fact_at c.args.start)) (sym c.deref-2.ensures.value) c.requires.quiet
 
 -- the sweep has the steps that the first round leaves
-pub returns-then-not-is_closed-clause-cost : goal.returns-then-not-is_closed-clause-cost
-returns-then-not-is_closed-clause-cost g c = λ best b.
+pub returns-then-not-is_best-clause-cost : goal.returns-then-not-is_best-clause-cost
+returns-then-not-is_best-clause-cost g c = λ best b.
     let due = c.args.area.now.work.due in
     let first = ap (count_by (λ b. b)) c.deref.ensures.value in
     let all = count_by-le-length (λ b. b) due.items in
@@ -25,7 +26,7 @@ returns-then-not-is_closed-clause-cost g c = λ best b.
     omega (
       arith,
       rounds,
-      c.sweep.ensures.cost,
+      c.sweep_from.ensures.cost,
       c.count_due.ensures,
       first,
       all,
@@ -38,15 +39,15 @@ pub returns-clause-best : goal.returns-clause-best
 returns-clause-best g c =
     let s = setting_by g.C.Concludes.rules c.args.uni.now in
     let t = c.swap.new.y in
-    let closed : IsTrue c.in_ok-is_closed.is_closed = search rules in
+    let best : IsTrue c.in_ok-is_best.is_best = search rules in
     subst (IsBestFrom s (fact_at c.args.start) c.args.height) (said_at t true)
     (subst (λ (x : Table). IsBestFrom s (fact_at c.args.start) c.args.height (fact_at x))
-    (sym c.swap.ensures.y_after) (c.in_ok-is_closed.ensures.best closed))
+    (sym c.swap.ensures.y_after) (c.in_ok-is_best.ensures.best best))
 
 pub returns-clause-marked : goal.returns-clause-marked
 returns-clause-marked g c =
     let s = setting_by g.C.Concludes.rules c.args.uni.now in
-    let closed : IsTrue c.in_ok-is_closed.is_closed = search rules in
-    said_marked s c.swap.new.y true
-    (λ said. subst (λ (x : Table). IsClosedUnder s (fact_at x)) (sym c.swap.ensures.y_after)
-    (c.in_ok-is_closed.ensures.closed closed))
+    let best : IsTrue c.in_ok-is_best.is_best = search rules in
+    said_unless s c.swap.new.y true
+    (λ said. subst (λ (x : Table). fact_at x slot.Void ≡ None → IsClosedUnder s (fact_at x))
+    (sym c.swap.ensures.y_after) (c.in_ok-is_best.ensures.closed best))

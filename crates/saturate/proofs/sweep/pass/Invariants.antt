@@ -7,10 +7,13 @@ use Rattle.saturate.proofs.sweep.pass.Given as goal
 abbrev pub invariant-loop-k : goal.invariant-loop-k
 invariant-loop-k g l = record {
   sweeping : (first : At) → IsSweeping (setting_by g.C.Concludes.rules l.uni) l.uni first l.height
-      l.initial.table l.initial.sweep.heights.items l.initial.sweep.due.items
-      → IsSweeping (setting_by g.C.Concludes.rules l.uni) l.uni first l.height l.table
-      l.sweep.heights.items l.sweep.due.items;
-  long : length l.sweep.due.items ≡ length l.uni.instances;
+      (g.K.Sweeps.facts l.uni l.initial.kept) l.initial.work.heights.items l.initial.work.due.items
+      → IsSweeping (setting_by g.C.Concludes.rules l.uni) l.uni first l.height
+      (g.K.Sweeps.facts l.uni l.kept) l.work.heights.items l.work.due.items;
+  long : length l.work.due.items ≡ length l.uni.instances;
+  fits : g.K.Sweeps.fits l.uni l.kept;
+  came : (first : _) → g.K.Sweeps.came l.uni first l.initial.kept
+      → g.K.Sweeps.came l.uni first l.kept;
   cost : g.C.Concludes.asked l.steps + l.left
       ≤ g.C.Concludes.asked l.initial.steps + l.initial.left;
 }

@@ -9,22 +9,21 @@ use Rattle.rule_universe.proofs.InTurn.{none_left, here, rest_is}
 use Rattle.rule_universe.specs.Placed.{slots_of}
 use Rattle.saturate.proofs.Gather.{after, after_first}
 use Rattle.saturate.proofs.Lists.{taken_cases}
-use Rattle.saturate.specs.Tables.{fact_at}
 use Rattle.saturate.proofs.sweep.read.Goals as goal
 
 pub bounds-heights-p : goal.bounds-heights-p
-bounds-heights-p c = c.requires.within (here c.args.placed.now c.loop-p.p-index)
+bounds-heights-p g c = c.requires.within (here c.args.placed.now c.loop-p.p-index)
     (Contains-get_or c.args.placed.now c.loop-p.p-index none_left c.loop-p-test.true)
 
 pub loop-p-preserved : goal.loop-p-preserved
-loop-p-preserved c =
+loop-p-preserved g c =
     let row = c.args.placed.now in
     let n = c.loop-p.p-index in
-    let at = fact_at c.args.table.now in
+    let at = g.K.Sweeps.facts c.args.uni.now c.args.kept.now in
     let p : Placed = here row n in
     let ps = c.loop-p.premises.items in
     let rest = slots_of (drop (n + 1) row) in
-    let found : at p.slot ≡ Some c.in-Some.f = sym c.strongest_at.ensures ∙ c.in-Some.is in
+    let found : at p.slot ≡ Some c.in-Some.f = sym c.fact_on.ensures ∙ c.in-Some.is in
     record {
       read = c.loop-p.invariant.read
           ∙ ap (λ l. after ps (all_at at (slots_of l))) (rest_is row n c.loop-p-test.true)
@@ -44,7 +43,7 @@ loop-p-preserved c =
     }
 
 pub returns-clause-heights : goal.returns-clause-heights
-returns-clause-heights c = λ p h w e.
+returns-clause-heights g c = λ p h w e.
     c.loop-p.invariant.most p h
     (subst (λ l. Contains l p) (sym (take_all c.loop-p.p-index c.args.placed.now (omega arith)))
     w) e
