@@ -1,6 +1,6 @@
 -- What conclusions come to, one, two for a slot, and those of a whole round.
 use Rattle.std.specs.Prelude.{◌≡◌, ◌≢◌, ◌⊎◌, ◌<◌, ◌≤◌, ◌+◌, ◌*◌, ℕ, List, [], ◌∷◌, ◌++◌, length}
-use Rattle.std.specs.Prelude.{Option, Some, None, slice_get, map, Contains, refl}
+use Rattle.std.specs.Prelude.{Option, Some, None, map, Contains, refl}
 use Rattle.std.proofs.Common.{sym, ◌∙◌, ap, subst, inl, inr, arith}
 use Rattle.std.proofs.lemmas.List.{map-append}
 use Rattle.std.proofs.lemmas.List.Elements.{Contains-push, Contains-push_cases}
@@ -10,7 +10,6 @@ use Rattle.facts.specs.declared.fact.Fact.{Fact}
 use Rattle.facts.specs.declared.fact.Slot.{Slot}
 use Rattle.facts.specs.declared.fact.Fact.TheVariants as fact
 use Rattle.facts.specs.declared.fact.Slot.TheVariants as slot
-use Rattle.facts.specs.declared.instance.Instance.{Instance}
 use Rattle.facts.specs.Order.{slot_of, IsStronger}
 use Rattle.facts.proofs.CommonParts.{at_option, void_is}
 use Rattle.theorem_list.specs.Concludes.{concludes}
@@ -18,7 +17,7 @@ use Rattle.derivation.specs.Derivations.{At}
 use Rattle.derivation.specs.Lists.{IsOnTargetList}
 use Rattle.derivation.specs.Rounds.{IsProper, Improves, IsAhead, IsSame, AllSeen}
 use Rattle.derivation.specs.Changes.{IsListed}
-use Rattle.derivation.proofs.Parts.{some_same, none_some, void_alone}
+use Rattle.derivation.proofs.Parts.{none_some, void_alone}
 use Rattle.derivation.specs.Parts.{slot_cases}
 use Rattle.derivation.proofs.Steps.{improved_slot, improved_stronger, old_no_void}
 use Rattle.derivation.proofs.Ahead.{ahead_begin, ahead_step, ahead_void}
@@ -32,14 +31,15 @@ use Rattle.tree_certificates.specs.Sections.{behind, ArePlaces}
 use Rattle.tree_certificates.specs.Writing.{IsWritable}
 use Rattle.box_trace.specs.declared.known.Known.{Known}
 use Rattle.box_trace.specs.declared.log.Log.{Log}
+use Rattle.box_trace.specs.declared.log.Source.{Source}
 use Rattle.box_trace.specs.declared.ends.Found.{Found}
 use Rattle.box_trace.specs.declared.ends.Ends.{Ends}
 use Rattle.box_trace.specs.Tables.{known_at, place_in, HasRows}
 use Rattle.box_trace.specs.Scans.{IsConclusion, ends_in, AreEndsOf, IsWide}
 use Rattle.box_trace.proofs.Scans.{most_for}
 use Rattle.box_trace.specs.Rounds.{AddsSteps}
-use Rattle.box_trace.specs.Logs.{Comes, CanCite, GoesOnFrom, IsLonger, IsComeBy, IsSlotWritten}
-use Rattle.box_trace.specs.Logs.{IsRound, more_by}
+use Rattle.box_trace.specs.Logs.{Comes, CanCite, GoesOnFrom, IsLonger, IsSource, IsComeBy}
+use Rattle.box_trace.specs.Logs.{IsSlotWritten, IsRound, more_by}
 use Rattle.box_trace.proofs.Rows.{same_known, same_places}
 use Rattle.box_trace.proofs.Added.{adds_both, adds_one, adds_slack}
 use Rattle.box_trace.proofs.Beyond.{beyond_below, beyond_next, beyond_both, beyond_one}
@@ -49,18 +49,16 @@ use Rattle.box_trace.proofs.Scanned.{IsWritten, written_one, written_both, wide_
 
 module _ (u : World) (now : Known) where
   -- One conclusion came.
-  pub came : (old new : Log) (found : Found) (i : Instance) (premises : List ℕ)
-      → HasRows u old.known → IsConclusion u (known_at u now) found
-      → slice_get u.instances found.instance ≡ Some i
-      → premises ≡ map (place_in u now) i.premises
-      → Comes u old i.rule i.arg premises found.fact new → IsComeBy u now found old new
-  came old new found i premises r w there e come =
-      let same : w.0 ≡ i = some_same w.0 i (slice_get u.instances found.instance) w.1 there in
-      let c : Comes u old (w.0).rule (w.0).arg
-      (map (place_in u now) (w.0).premises) found.fact new =
-      subst (λ (j : Instance). Comes u old j.rule j.arg (map (place_in u now) j.premises) found.fact
-      new) (sym same) (subst (λ ps. Comes u old i.rule i.arg ps found.fact new) e come) in
+  pub came : (old new : Log) (found : Found) (source : Source) → HasRows u old.known
+      → (w : IsConclusion u (known_at u now) found) → IsSource u now w.0 source
+      → Comes u old source.rule source.arg source.premises found.fact new
+      → IsComeBy u now found old new
+  came old new found source r w is come =
       let ps : List ℕ = map (place_in u now) (w.0).premises in
+      let c : Comes u old (w.0).rule (w.0).arg ps found.fact new =
+      subst (λ n. Comes u old n (w.0).arg ps found.fact new) is.rule
+      (subst (λ n. Comes u old source.rule n ps found.fact new) is.arg
+      (subst (λ l. Comes u old source.rule source.arg l found.fact new) is.premises come)) in
       record {
         improves = comes_improves u old new (w.0).rule (w.0).arg ps found.fact r.proper c;
         goes_on = λ writable. instance_goes_on u writable now old new found.instance w.0

@@ -16,5 +16,6 @@ pub mod Given
 pub mod Steps
 pub mod Short
 pub mod Said
+pub mod Sweeps
 pub mod RoundsLaws
 pub mod Scans

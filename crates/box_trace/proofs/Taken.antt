@@ -49,7 +49,7 @@ module _ (u : World) (once : IsEachOnce u.pairs)
     (on_target : IsOnTargetList (concludes u.nodes u.hints)) (now : Known) (k place : ℕ) (c : Fact)
     (w : IsConcludedBy concludes u (known_at u now) k place c) (d : ¬ (c ≡ fact.Void)) where
   -- the place is that of its slot
-  of_slot : IsPlace (length u.nodes) u.pairs (slot_of c) place
+  pub of_slot : IsPlace (length u.nodes) u.pairs (slot_of c) place
   of_slot =
       let r = conclusion_reads (concludes u.nodes u.hints) (known_at u now) w.0 c w.2 in
       elim (on_target (w.0).rule (w.0).arg r.0 (w.0).target c r.2) [

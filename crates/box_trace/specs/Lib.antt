@@ -4,5 +4,6 @@ pub mod Ends
 pub mod Scans
 pub mod Logs
 pub mod Gatherings
+pub mod Sweeps
 pub mod Boxes
 pub mod Short

@@ -1,7 +1,8 @@
 -- What becomes of a log as facts come, and where its steps may stand.
 use Rattle.std.specs.Prelude.{◌≡◌, ◌≢◌, ◌⊎◌, ◌<◌, ◌≤◌, ◌+◌, ◌*◌, ℕ, List, [], ◌∷◌, ◌++◌, length}
-use Rattle.std.specs.Prelude.{Option, Some, None, slice_get, Contains, false}
+use Rattle.std.specs.Prelude.{Option, Some, None, slice_get, map, Contains, false}
 use Rattle.fx_model.specs.declared.ExprId.{ExprId}
+use Rattle.facts.specs.declared.instance.Instance.{Instance}
 use Rattle.facts.specs.declared.fact.Fact.{Fact}
 use Rattle.facts.specs.declared.fact.Slot.{Slot}
 use Rattle.facts.specs.declared.fact.Slot.TheVariants as slot
@@ -23,6 +24,7 @@ use Rattle.tree_certificates.specs.Traces.{HaveFields}
 use Rattle.tree_certificates.specs.Coming.{coming}
 use Rattle.box_trace.specs.declared.known.Known.{Known}
 use Rattle.box_trace.specs.declared.log.Log.{Log}
+use Rattle.box_trace.specs.declared.log.Source.{Source}
 use Rattle.box_trace.specs.declared.ends.Found.{Found}
 use Rattle.box_trace.specs.declared.ends.Ends.{Ends}
 use Rattle.box_trace.specs.Scans.{IsWide}
@@ -95,6 +97,12 @@ pub record IsLonger (u : World) (most : ℕ) (old new : Log) : Type 0 where
   pub rows : HasRows u new.known
   pub first : new.first ≡ old.first
   pub few : length new.steps.items ≤ length old.steps.items + most
+
+-- It is by the instance, from what is known now.
+pub record IsSource (u : World) (now : Known) (i : Instance) (source : Source) : Type 0 where
+  pub rule : source.rule ≡ i.rule
+  pub arg : source.arg ≡ i.arg
+  pub premises : source.premises ≡ map (place_in u now) i.premises
 
 -- how many premises the instance has beyond four
 abbrev pub more_by : World → Found → ℕ

@@ -10,6 +10,8 @@ mod log;
 mod rounds;
 mod scan;
 mod starts;
+mod sweeping;
+mod swept;
 mod tracing;
 mod writing;
 

@@ -53,7 +53,7 @@ pub(crate) fn cite(
 }
 
 // Whether what stands in the row with this place is as strong as the fact.
-fn has_as_strong(now: &Known, place: u16, c: &Fact) -> bool
+pub(crate) fn has_as_strong(now: &Known, place: u16, c: &Fact) -> bool
     ensures { IsBeaten (row_in now.now.rows.items (Some place)) c.now result }
 {
     match now.at(place) {

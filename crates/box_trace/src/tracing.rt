@@ -13,6 +13,7 @@ use crate::known::Known;
 use crate::log::Log;
 use crate::rounds::rounds;
 use crate::starts::{child_start, root_start};
+use crate::swept::swept;
 use cert_bytes::StepRow;
 use fx_model::ExprId;
 use interval::Interval;
@@ -77,6 +78,13 @@ fn trace_child(
 {
     uni.laws();
     rules_are_lawful();
+    if parent.closed {
+        let begun = child_start(alloc, uni, piece, parent, first)?;
+        let by_sweep = swept(alloc, uni, piece.0, height, begun)?;
+        if let Some(last) = by_sweep {
+            return Ok(last);
+        }
+    }
     let log = child_start(alloc, uni, piece, parent, first)?;
     let changed = changed_below(parent, piece.0);
     let done = rounds(alloc, uni, height, log, changed)?;

@@ -1,11 +1,13 @@
 //! The steps of a round: at most two for each slot of an interval, and one for another.
-ghost use Rattle.std.specs.Prelude.{◌≡◌, ◌<◌, ◌+◌, ◌*◌, ◌^◌, ◌↔◌, IsTrue, OnOk, length};
+ghost use Rattle.std.specs.Prelude.{◌≡◌, ◌<◌, ◌+◌, ◌*◌, ◌^◌, ◌↔◌, Some, IsTrue, IfOk, OnOk, length};
+ghost use Rattle.std.specs.Prelude.{slice_get};
+ghost use Rattle.facts.specs.declared.instance.Instance.{Instance as Applied};
 ghost use Rattle.facts.specs.declared.fact.Fact.TheVariants as fact;
 ghost use Rattle.facts.specs.Order.{slot_of};
 ghost use Rattle.derivation.specs.Rounds.{IsSame};
 ghost use Rattle.rule_universe.specs.Places.{IsPlace, place_count};
 ghost use Rattle.box_trace.specs.Tables.{known_at, HasRows};
-ghost use Rattle.box_trace.specs.Logs.{IsComeBy, IsSlotWritten, IsRound};
+ghost use Rattle.box_trace.specs.Logs.{IsSource, IsComeBy, IsSlotWritten, IsRound};
 ghost use Rattle.box_trace.specs.Scans.{IsConclusion, AreEndsOf, IsScanned, IsWide, IsGathered};
 
 use crate::ends::{Ends, Found};
@@ -17,6 +19,21 @@ use fx_edge::Items;
 use rule_universe::{Placed, Universe};
 use saturate::{instance_at, rules_are_lawful};
 use std::alloc::{AllocError, Global};
+
+// By what the conclusion of the instance with this number from what is known now comes.
+fn source_of(alloc: Global, uni: &Universe, now: &Known, k: usize) -> Result<Source, AllocError>
+    requires { k < length uni.now.instances }
+    ensures { IfOk result (λ source. (i : Applied) → slice_get uni.now.instances k ≡ Some i
+        → IsSource uni.now now.now i source) }
+{
+    let premises = cite(alloc, uni, now, k)?;
+    let instance = instance_at(uni, k);
+    Ok(Source {
+        rule: instance.rule,
+        arg: instance.arg,
+        premises: Items::from_vec(premises),
+    })
+}
 
 // Lets what an instance concluded come to what is known.
 fn come_by(
@@ -35,14 +52,27 @@ fn come_by(
 {
     uni.laws();
     rules_are_lawful();
-    let k = found.instance;
-    let premises = cite(alloc, uni, now, k)?;
-    let instance = instance_at(uni, k);
-    let source = Source {
-        rule: instance.rule,
-        arg: instance.arg,
-        premises: Items::from_vec(premises),
-    };
+    let source = source_of(alloc, uni, now, found.instance)?;
+    log.come(uni, found.fact, place, source)
+}
+
+// The same, where an instance concluded it from what the log comes to.
+pub(crate) fn come_now(
+    alloc: Global,
+    uni: &Universe,
+    place: u16,
+    found: Found,
+    log: &mut Log,
+) -> Result<(), AllocError>
+    requires conclusion { IsConclusion uni.now (known_at uni.now log.old.known) found }
+    requires place { IsPlace (length uni.now.nodes) uni.now.pairs (slot_of found.fact) place }
+    requires rows { HasRows uni.now log.old.known }
+    requires room { log.old.first + length log.old.steps.items < 2 ^ 64 }
+    ensures { OnOk result (IsComeBy uni.now log.old.known found log.old log.new) }
+{
+    uni.laws();
+    rules_are_lawful();
+    let source = source_of(alloc, uni, &log.known, found.instance)?;
     log.come(uni, found.fact, place, source)
 }
 
