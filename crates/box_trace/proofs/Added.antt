@@ -80,14 +80,13 @@ same_steps u k new e n w =
 
 -- ---- one fact comes
 module _ (u : World) (old new : Log) (rule arg : ℕ) (premises : List ℕ) (c : Fact) where
-  abbrev Row : StepRow
-  Row = coming rule arg premises (known_at u old.known (slot_of c))
-      (place_in u old.known (slot_of c)) c
+  abbrev Row : Option Fact → StepRow
+  Row met = coming rule arg premises met (place_in u old.known (slot_of c)) c
 
   longer : IsStep u old rule arg premises c new
       → length new.steps.items ≡ length old.steps.items + 1
   longer w = let e = ap length w.steps in
-      let l = length-append old.steps.items (Row ∷ []) in omega (arith, e, l)
+      let l = length-append old.steps.items (Row w.met ∷ []) in omega (arith, e, l)
 
   -- what is known has its old step, or the new one
   step_known : IsStep u old rule arg premises c new → (n : ℕ) → IsStepIn u new.known n
@@ -167,7 +166,7 @@ module _ (u : World) (now : Known) where
             subst P (sym y.3)
             (adds_slack 0 (more_by u found) old old (omega arith) (adds_none old)))
         | inr y ↦
-            (let row = Row u old new i.rule i.arg premises found.fact in
+            (let row = Row u old new i.rule i.arg premises found.fact y.met in
             let q = conclusion_reads (concludes u.nodes u.hints) (known_at u now) i found.fact e in
             let m : length premises ≡ length i.premises = mapped (place_in u now) i.premises in
             let more : more_by u found ≡ length i.premises - 4 = ap beyond_in there in
@@ -218,7 +217,7 @@ module _ (u : World) (Old : ℕ → Type 0) where
             (let P : Log → Type 0 = λ l. BeginsBy u Old (most + 1) first l in
             subst P (sym y.3) (gives_slack most (most + 1) first old (omega arith) b))
         | inr y ↦
-            (let row = Row u old new (given_number g) arg [] c in
+            (let row = Row u old new (given_number g) arg [] c y.met in
             let l = longer u old new (given_number g) arg [] c y in
             let is : given_of row.rule ≢ None =
             λ e. none_some g (given_of (given_number g)) e (given_back g) in

@@ -12,7 +12,7 @@ use Rattle.theorem_list.specs.Concludes.{concludes}
 use Rattle.derivation.specs.Derivations.{At}
 use Rattle.derivation.specs.Rounds.{IsProper, conclusion, IsKept, Improves}
 use Rattle.derivation.proofs.Rounds.{Reads}
-use Rattle.derivation.proofs.Parts.{some_same, conclusion_reads}
+use Rattle.derivation.proofs.Parts.{some_same, none_some, conclusion_reads}
 use Rattle.derivation.specs.Parts.{slot_cases}
 use Rattle.derivation.proofs.Steps.{improved_proper}
 use Rattle.derivation.specs.Exists.{joined}
@@ -23,8 +23,8 @@ use Rattle.cert_bytes.specs.declared.item.StepRow.{StepRow}
 use Rattle.cert_bytes.specs.Certificates.{IsCounted, IsShort}
 use Rattle.cert_checker.specs.Open.{Numbered, with_step}
 use Rattle.cert_checker.specs.declared.given.Given.{Given}
-use Rattle.cert_checker.specs.Given.{given_number}
-use Rattle.cert_checker.proofs.GivenLaws.{given_low}
+use Rattle.cert_checker.specs.Given.{given_number, given_of}
+use Rattle.cert_checker.proofs.GivenLaws.{given_low, given_back}
 use Rattle.cert_checker.specs.Steps.{step_fact, step_facts, gives, gives_by, met_with, IsEnough}
 use Rattle.cert_checker.specs.Steps.{IsConcluded, target_of}
 use Rattle.tree_certificates.specs.Sections.{behind, AreAccepted, ArePlaces}
@@ -39,7 +39,7 @@ use Rattle.box_trace.specs.declared.known.Known.{Known}
 use Rattle.box_trace.specs.declared.log.Log.{Log}
 use Rattle.box_trace.specs.Tables.{fact_of, number_or, cited_at, known_at, place_in, HasRows}
 use Rattle.box_trace.proofs.Rows.{open_marked}
-use Rattle.box_trace.specs.Logs.{kept_in, IsStep, Comes, InSection, CanCite, GoesOnFrom}
+use Rattle.box_trace.specs.Logs.{kept_in, IsMet, IsStep, Comes, InSection, CanCite, GoesOnFrom}
 
 -- ---- what is given
 -- c comes by what is given, which takes no premises.
@@ -53,6 +53,25 @@ pub comes_given : (u : World) (old : Log) (rule arg : ℕ) (premises : List ℕ)
 comes_given u old rule arg premises c new g a d e f w =
     subst (λ n. Comes u old n a [] c new) d
     (subst (λ n. Comes u old rule n [] c new) e (subst (λ ps. Comes u old rule arg ps c new) f w))
+
+-- ---- what a step is met with
+-- What is given is met with what stood there.
+pub met_given : (g : Given) (o : Option Fact) (c : Fact) (met : Option Fact)
+    → IsMet (given_number g) o c met → met ≡ o
+met_given g o c met w =
+    elim w [ inl e ↦ e | inr e ↦ absurd (none_some g (given_of (given_number g)) e.0 (given_back g)) ]
+
+module _ (rule : ℕ) (o : Option Fact) (c : Fact) (met : Option Fact) (w : IsMet rule o c met) where
+  met_known : (h : Fact) → met ≡ Some h → o ≡ Some h
+  met_known h q = elim w [ inl e ↦ sym e ∙ q | inr e ↦ absurd (none_some h met e.1 q) ]
+
+  -- either way the same is kept
+  met_kept : joined met c ≡ joined o c
+  met_kept =
+      elim w [
+        | inl e ↦ ap (λ m. joined m c) e
+        | inr e ↦ ap (λ m. joined m c) e.1 ∙ sym e.2
+      ]
 
 -- ---- what becomes of the table
 module _ (u : World) (old new : Log) (rule arg : ℕ) (premises : List ℕ) (c : Fact) where
@@ -105,8 +124,7 @@ module _ (u : World) (old new : Log) (rule arg : ℕ) (premises : List ℕ) (c :
         | inl y ↦ (let e : length new.steps.items ≡ length old.steps.items =
             ap (λ (l : Log). length l.steps.items) y.3 in omega arith)
         | inr y ↦
-            (let row = coming rule arg premises (known_at u old.known (slot_of c))
-            (place_in u old.known (slot_of c)) c in
+            (let row = coming rule arg premises y.met (place_in u old.known (slot_of c)) c in
             let e = ap length y.steps in
             let l = length-append old.steps.items (row ∷ []) in
             omega (arith, e, l))
@@ -119,23 +137,28 @@ next_behind s (row ∷ rows) = let h = next_behind (with_step s row.fact) rows i
 
 module _ (u : World) (cut : Option Fact) (s : Numbered) (old new : Log) (rule arg : ℕ)
     (premises : List ℕ) (c : Fact) where
-  abbrev Row : StepRow
-  Row = coming rule arg premises (known_at u old.known (slot_of c))
-      (place_in u old.known (slot_of c)) c
+  abbrev Row : Option Fact → StepRow
+  Row met = coming rule arg premises met (place_in u old.known (slot_of c)) c
 
   -- the rule, its argument and the number of premises have room
   abbrev pub HasRoom : Type 0
   HasRoom = IsCounted premises × (rule < 256) × IsShort arg
 
-  -- what the rule gives is enough for c to come
+  -- what the rule gives is enough for c to come, where it is met with this
+  abbrev pub SufficesWith : List Fact → Option Fact → Type 0
+  SufficesWith ps met = IsEnough (met_with (gives (givens_of (setting_of u) u.hints cut) (Row met) ps
+      (met_by met c)) (met_by met c)) (joined met c)
+
+  -- the same, whatever it is met with
   abbrev pub Suffices : List Fact → Type 0
-  Suffices ps = IsEnough (met_with (gives (givens_of (setting_of u) u.hints cut) Row ps
-      (met_by (known_at u old.known (slot_of c)) c)) (met_by (known_at u old.known (slot_of c)) c))
-      (joined (known_at u old.known (slot_of c)) c)
+  Suffices ps = (met : Option Fact) → IsMet rule (known_at u old.known (slot_of c)) c met
+      → SufficesWith ps met
 
   module _ (w : IsStep u old rule arg premises c new) where
     rows_behind : behind s new.steps.items ≡ with_step (behind s old.steps.items) (kept_in u old c)
-    rows_behind = ap (behind s) w.steps ∙ behind_both s old.steps.items (Row ∷ [])
+    rows_behind = ap (behind s) w.steps ∙ (behind_both s old.steps.items (Row w.met ∷ [])
+        ∙ ap (with_step (behind s old.steps.items))
+        (met_kept rule (known_at u old.known (slot_of c)) c w.met w.met_is))
 
     step_cites : (now : Known) → CanCite u s old now → CanCite u s new now
     step_cites now can t f e =
@@ -171,19 +194,22 @@ module _ (u : World) (cut : Option Fact) (s : Numbered) (old new : Log) (rule ar
         → InSection u cut s old → InSection u cut s new
     step_section p room known ps found suffices i =
         let g = givens_of (setting_of u) u.hints cut in
-        let concluded : IsConcluded g (behind s old.steps.items).rows Row =
+        let known_met = met_known rule (known_at u old.known (slot_of c)) c w.met w.met_is in
+        let concluded : IsConcluded g (behind s old.steps.items).rows (Row w.met) =
         coming_accepted g (behind s old.steps.items) rule arg premises ps
-        (known_at u old.known (slot_of c)) (place_in u old.known (slot_of c)) c
-        (λ h q. p (slot_of c) h q) (λ h q. i.traced.placed (slot_of c) h q) known found suffices in
+        w.met (place_in u old.known (slot_of c)) c
+        (λ h q. p (slot_of c) h (known_met h q))
+        (λ h q. i.traced.placed (slot_of c) h (known_met h q)) known found
+        (suffices w.met w.met_is) in
         record {
           below = i.below;
           next = i.next ∙ sym w.first;
           traced = record {
             accepted = subst (AreAccepted g s) (sym w.steps)
-                (accepted_both g s old.steps.items (Row ∷ []) i.traced.accepted (concluded, tt));
+                (accepted_both g s old.steps.items (Row w.met ∷ []) i.traced.accepted (concluded, tt));
             placed = step_placed i;
           };
-          fields = subst HaveFields (sym w.steps) (fields_more old.steps.items Row i.fields
+          fields = subst HaveFields (sym w.steps) (fields_more old.steps.items (Row w.met) i.fields
               (record { counted = room.0; rule = room.1; arg = room.2 }));
         }
 
@@ -202,6 +228,14 @@ module _ (u : World) (cut : Option Fact) (s : Numbered) (old new : Log) (rule ar
   comes_cites now w can =
       let P : Log → Type 0 = λ l. CanCite u s l now in
       elim w [ inl y ↦ subst P (sym y.3) can | inr y ↦ step_cites y now can ]
+
+-- What is given is met with what stood there alone.
+pub given_suffices : (u : World) (cut : Option Fact) (s : Numbered) (old new : Log) (g : Given)
+    (arg : ℕ) (c : Fact) → SufficesWith u cut s old new (given_number g) arg [] c []
+    (known_at u old.known (slot_of c)) → Suffices u cut s old new (given_number g) arg [] c []
+given_suffices u cut s old new g arg c w = λ met is.
+    subst (SufficesWith u cut s old new (given_number g) arg [] c [])
+    (sym (met_given g (known_at u old.known (slot_of c)) c met is)) w
 
 -- ---- conclusions of instances
 module _ (u : World) (w : IsWritable (setting_of u) u.hints) where
@@ -256,12 +290,17 @@ module _ (u : World) (w : IsWritable (setting_of u) u.hints) where
       let premises : List ℕ = map (place_in u now) i.premises in
       let o : Option Fact = known_at u old.known (slot_of c) in
       let own : (h : Fact) → o ≡ Some h → slot_of h ≡ slot_of c = (λ h y. p (slot_of c) h y) in
-      let P : Option Fact → Type 0 = λ x. IsEnough (met_with x (met_by o c)) (joined o c) in (
+      let enough_by : (met : Option Fact) → IsMet i.rule o c met
+      → SufficesWith u cut s old new i.rule i.arg premises c q.0 met = (λ met is.
+      let own_met : (h : Fact) → met ≡ Some h → slot_of h ≡ slot_of c =
+      (λ h y. own h (met_known i.rule o c met is h y)) in
+      let P : Option Fact → Type 0 = λ x. IsEnough (met_with x (met_by met c)) (joined met c) in
+      subst P (sym (instance_gives cut i met c q.0 premises (place_in u old.known (slot_of c)) q.2
+      own_met)) (enough met c own_met)) in (
         comes_section u cut s old new i.rule i.arg premises c p (instance_room k i (known_at u now)
             (place_in u now) q.0 c there q.1 q.2) (target_known k i q.0 c there q.2) q.0
             (premises_found (behind s old.steps.items) (known_at u now)
             (place_in u now) can i.premises q.0 q.1)
-            (subst P (sym (instance_gives cut i o c q.0 premises
-            (place_in u old.known (slot_of c)) q.2 own)) (enough o c own)) come section,
+            enough_by come section,
         comes_cites u cut s old new i.rule i.arg premises c now come can,
       )

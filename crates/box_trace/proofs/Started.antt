@@ -36,8 +36,8 @@ use Rattle.box_trace.specs.Tables.{known_at, place_in, HasRows}
 use Rattle.box_trace.specs.Logs.{InSection}
 use Rattle.box_trace.specs.Boxes.{IsSectionBelow, BeginsWithin, BeginsBelow}
 use Rattle.box_trace.proofs.Rows.{same_known, same_places, same_rows, open_marked}
-use Rattle.box_trace.proofs.Logged.{ComesGiven, Suffices, comes_rows, comes_first, comes_few}
-use Rattle.box_trace.proofs.Logged.{comes_section}
+use Rattle.box_trace.proofs.Logged.{ComesGiven, SufficesWith, given_suffices, comes_rows}
+use Rattle.box_trace.proofs.Logged.{comes_first, comes_few, comes_section}
 
 -- rows of nothing
 pub blank_rows : (u : World) (k : Known)
@@ -72,7 +72,8 @@ module _ (u : World) (first : ℕ) where
       (b : BeginsWithin u first most old) (come : ComesGiven u old g arg c new)
       (suffices : IsWritable (setting_of u) u.hints
       → IsShort arg × IsSlotKnown u.nodes (slot_of c)
-      × ((s : Numbered) → Suffices u None s old new (given_number g) arg [] c [])) where
+      × ((s : Numbered) → SufficesWith u None s old new (given_number g) arg [] c []
+      (known_at u old.known (slot_of c)))) where
     abbrev Rule : ℕ
     Rule = given_number g
 
@@ -91,7 +92,8 @@ module _ (u : World) (first : ℕ) where
           } in
           let j = comes_section u None s old new Rule arg [] c b.rows.proper
           (omega arith, given_short g, (suffices w).0)
-          (suffices w).1 [] refl ((suffices w).2 s) come i in
+          (suffices w).1 [] refl (given_suffices u None s old new g arg c ((suffices w).2 s)) come
+          i in
           (j.traced, j.fields);
     }
 
@@ -183,6 +185,7 @@ module _ (u : World) (piece : Piece) (parent : Known) (first : ℕ)
             subst (λ (at : At). IsCutTo at p piece) (sym (same_known u parent old.known e)) sec.2 in
             let j = comes_section u (Some p) s old new rule 0 [] Piece_fact rows.proper
             (omega arith, given_short given.Piece, omega arith) known [] refl
-            (subst P (sym (met_by_interval o piece.0 piece.1)) cut) come (old_section s p sec) in
+            (given_suffices u (Some p) s old new given.Piece 0 Piece_fact
+            (subst P (sym (met_by_interval o piece.0 piece.1)) cut)) come (old_section s p sec) in
             (j.traced, j.fields);
       }

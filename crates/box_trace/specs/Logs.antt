@@ -17,18 +17,20 @@ use Rattle.rule_universe.specs.Placed.{slots_of, IsPlaced}
 use Rattle.rule_universe.specs.Sizes.{beyond_four}
 use Rattle.saturate.specs.Universes.{setting_of}
 use Rattle.saturate.specs.Closed.{IsQuietBut}
+use Rattle.cert_checker.specs.Given.{given_of}
 use Rattle.cert_checker.specs.Open.{Numbered}
 use Rattle.tree_certificates.specs.Sections.{behind, ArePlaces, AreBelow, IsTraced}
 use Rattle.tree_certificates.specs.Writing.{IsWritable, givens_of}
 use Rattle.tree_certificates.specs.Traces.{HaveFields}
 use Rattle.tree_certificates.specs.Coming.{coming}
+use Rattle.box_trace.specs.declared.known.Cited.{Cited}
 use Rattle.box_trace.specs.declared.known.Known.{Known}
 use Rattle.box_trace.specs.declared.log.Log.{Log}
 use Rattle.box_trace.specs.declared.log.Source.{Source}
 use Rattle.box_trace.specs.declared.ends.Found.{Found}
 use Rattle.box_trace.specs.declared.ends.Ends.{Ends}
 use Rattle.box_trace.specs.Scans.{IsWide}
-use Rattle.box_trace.specs.Tables.{cited_at, known_at, place_in, HasRows}
+use Rattle.box_trace.specs.Tables.{number_of, cited_at, known_at, place_in, HasRows}
 use Rattle.box_trace.specs.Rounds.{beyond_in, AddsSteps}
 
 -- ---- where rounds begin
@@ -48,11 +50,25 @@ IsQuietFrom u at changed = at slot.Void ≡ None → (x : ExprId) → changed �
 abbrev pub kept_in : World → Log → Fact → Fact
 kept_in u log c = joined (known_at u log.known (slot_of c)) c
 
+-- What the step of c by this rule is met with, where that stood on its slot: that; or nothing, where
+-- c isn't given, and is what is kept.
+abbrev pub IsMet : ℕ → Option Fact → Fact → Option Fact → Type 0
+IsMet rule o c met = (met ≡ o) ⊎ ((given_of rule ≡ None) × (met ≡ None) × (joined o c ≡ c))
+
+-- The number of the step that the step of c is met with, where that stood in the row of its slot;
+-- or nothing, where c isn't given, and is as strong.
+abbrev pub IsMetBy : ℕ → Option Cited → Fact → Option ℕ → Type 0
+IsMetBy rule found c with = (with ≡ number_of found)
+    ⊎ ((given_of rule ≡ None) × (with ≡ None)
+    × ((row : Cited) × (found ≡ Some row) × IsStronger c row.fact))
+
 -- One step more, and what is kept stands in its row with the step's number.
 pub record IsStep (u : World) (old : Log) (rule arg : ℕ) (premises : List ℕ) (c : Fact)
     (new : Log) : Type 0 where
-  pub steps : new.steps.items ≡ old.steps.items ++ coming rule arg premises
-      (known_at u old.known (slot_of c)) (place_in u old.known (slot_of c)) c ∷ []
+  pub met : Option Fact
+  pub met_is : IsMet rule (known_at u old.known (slot_of c)) c met
+  pub steps : new.steps.items ≡ old.steps.items ++ coming rule arg premises met
+      (place_in u old.known (slot_of c)) c ∷ []
   pub here : cited_at u new.known (slot_of (kept_in u old c))
       ≡ Some (record { fact = kept_in u old c; number = old.first + length old.steps.items })
   pub others : (s : Slot) → s ≢ slot_of (kept_in u old c)

@@ -48,7 +48,7 @@ fn fact_of(row: Option<Cited>) -> Option<Fact>
     }
 }
 
-pub(crate) fn number_of(row: Option<Cited>) -> Option<u64>
+fn number_of(row: Option<Cited>) -> Option<u64>
     ensures { result ≡ number_of row }
 {
     match row {

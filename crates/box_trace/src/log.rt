@@ -7,9 +7,9 @@ ghost use Rattle.cert_checker.specs.Given.{given_number};
 ghost use Rattle.tree_certificates.specs.Coming.{with_by};
 ghost use Rattle.box_trace.specs.declared.known.Cited.{Cited as Row};
 ghost use Rattle.box_trace.specs.Tables.{fact_of, number_of, number_or, HasRows};
-ghost use Rattle.box_trace.specs.Logs.{Comes};
+ghost use Rattle.box_trace.specs.Logs.{Comes, IsMetBy};
 
-use crate::known::{Cited, Known, number_of};
+use crate::known::{Cited, Known};
 use cert_bytes::StepRow;
 use cert_checker::Given;
 use facts::{Fact, meet, slot, stronger};
@@ -79,6 +79,24 @@ fn kept(found: Option<Cited>, c: Fact) -> Option<Fact>
     }
 }
 
+// The number of the step that the one of a fact, which comes by this rule, is met with: that of what
+// stands in the row; but nothing where the fact alone is as strong. What is given is met always,
+// since a cut's piece may leave more than what is known.
+fn met_number(found: Option<Cited>, c: &Fact, rule: u8) -> Option<u64>
+    ensures { IsMetBy rule found c.now result }
+{
+    match found {
+        Some(row) => {
+            if rule < Given::Hypothesis.number() && stronger(c, &row.fact) {
+                None
+            } else {
+                Some(row.number)
+            }
+        }
+        None => None,
+    }
+}
+
 impl Log {
     // Keeps the meet of the fact and what is known on its slot, whose place is given, by one step,
     // where that is more than was known.
@@ -100,7 +118,7 @@ impl Log {
         let Some(fact) = kept(found, c) else {
             return Ok(());
         };
-        let with = number_of(found);
+        let with = met_number(found, &c, source.rule);
         let number = self.first + self.steps.len() as u64;
         let here = uni.place(slot(&fact));
         self.steps.push(StepRow {

@@ -1,5 +1,5 @@
 use Rattle.std.specs.Prelude.{length}
-use Rattle.std.proofs.Common.{sym, ◌∙◌, subst, arith, refl}
+use Rattle.std.proofs.Common.{sym, subst, arith, refl}
 use Rattle.rule_universe.specs.Worlds.{HasSlot}
 use Rattle.rule_universe.specs.Places.{IsPlace}
 use Rattle.box_trace.proofs.Stepped.{found_slot, stays_done, kept_known, kept_within, step_done}
@@ -39,6 +39,6 @@ returns c =
     c.place-here.result) c.slot.ensures c.place-here.ensures)
     (record c.args.self.now { steps = c.push.new.self; known = c.put.new.self }) c.args.source.rule
     c.args.source.arg c.args.source.premises _ _
-    (c.number_of-with.ensures ∙ c.in-Some.ensures.with) c.in_ok-push.ensures.items
+    c.in-Some.ensures.with c.met_number-with.ensures c.in_ok-push.ensures.items
     c.put.ensures.rows c.put.ensures.unsaid
     (omega (arith, c.len.ensures, c.args.self.now.steps.ok.0)) refl
