@@ -11,6 +11,7 @@ is recorded beside it, for `--version` (tools/about.py). Ends with 0 where the p
 with 70 where it isn't.
 """
 import functools
+import heapq
 import os
 import re
 import signal
@@ -24,9 +25,14 @@ TOP = os.path.dirname(os.path.dirname(os.path.abspath(__file__)))
 PROGRAM = "fx_main"
 OUT = f"{TOP}/crates/{PROGRAM}/out"
 LOG = "crates/fx_main/out/build.log"
-# What an estimate begins with: the processor seconds that a line takes, and the lines for which
-# that speaks once crates are done.
-PER_LINE, BEGINS_WITH = 0.04, 5000
+# The processor seconds that each crate's proof took in a gate from nothing, by tools/minutes.py.
+COSTS = f"{TOP}/tools/build_costs.txt"
+# The processor seconds of a line in a crate that has none there, and those of the program's build
+# after all proofs.
+PER_LINE, BUILD = 0.05, 150
+# An estimate begins with the speed of the machine that COSTS is of. That speaks for so many seconds
+# once crates are done.
+BEGINS_WITH = 120
 # The memory that a crate's proof is given, in bytes: most take 2 GB at most, and few more.
 MEMORY = 3 << 30
 
@@ -61,37 +67,68 @@ def lanes():
     return max(1, min(len(os.sched_getaffinity(0)), free // MEMORY))
 
 
+def costs():
+    """The processor seconds of each crate that COSTS lists; none if it isn't there."""
+    try:
+        with open(COSTS, encoding="utf-8") as it:
+            rows = [line.partition("#")[0].split() for line in it]
+    except FileNotFoundError:
+        return {}
+    return {row[0]: float(row[1]) for row in rows if row}
+
+
+def span(names, on, cost, at_once):
+    """The seconds that these crates take, so many at a time, each after those that it stands on.
+
+    Of those that can begin, the one on which the longest chain of others waits begins first."""
+    waits = {name: [it for it in on[name] if it in names] for name in names}
+    users = {name: [it for it in names if name in waits[it]] for name in names}
+
+    @functools.lru_cache(maxsize=None)
+    def chain(name):
+        return cost[name] + max(map(chain, users[name]), default=0)
+
+    open_now = [(-chain(name), name) for name in names if not waits[name]]
+    heapq.heapify(open_now)
+    left, running, now = {name: len(waits[name]) for name in names}, [], 0.0
+    while open_now or running:
+        while open_now and len(running) < at_once:
+            _, name = heapq.heappop(open_now)
+            heapq.heappush(running, (now + cost[name], name))
+        now, name = heapq.heappop(running)
+        for it in users[name]:
+            left[it] -= 1
+            if not left[it]:
+                heapq.heappush(open_now, (-chain(it), it))
+    return now
+
+
 class Work:
     """What is to be done, and how long that takes."""
 
     def __init__(self, at_once):
         self.at_once, self.on, self.began = at_once, crates(), time.time()
-        self.lines, self.kept = {}, set()
+        self.known, self.cost, self.kept = costs(), {}, set()
         self.add(PROGRAM)
-        self.left = set(self.lines)
+        self.cost[PROGRAM] += BUILD
+        self.left = set(self.cost)
 
     def add(self, name):
-        if name not in self.lines:
-            self.lines[name] = lines_of(name)
+        if name not in self.cost:
+            self.cost[name] = self.known.get(name) or PER_LINE * lines_of(name)
             for it in self.on[name]:
                 self.add(it)
 
     def span(self, names):
-        """How many lines one lane takes of these crates while the others take the rest: its share,
-        or the longest chain."""
-
-        @functools.lru_cache(maxsize=None)
-        def chain(name):
-            return self.lines[name] * (name in names) + max(map(chain, self.on[name]), default=0)
-
-        return max(chain(PROGRAM), sum(self.lines[it] for it in names) / self.at_once)
+        """The seconds that these crates take on the machine that COSTS is of."""
+        return span(frozenset(names), self.on, self.cost, self.at_once)
 
     def minutes(self):
         """About how long the rest takes, by what this run took so far."""
         left = self.span(self.left)
-        done = self.span(set(self.lines) - self.kept) - left
-        per_line = (PER_LINE * BEGINS_WITH + time.time() - self.began) / (BEGINS_WITH + done)
-        minutes = round(left * per_line / 60)
+        done = self.span(set(self.cost) - self.kept) - left
+        slower = (BEGINS_WITH + time.time() - self.began) / (BEGINS_WITH + done)
+        minutes = round(left * slower / 60)
         return f"about {minutes} minutes" if minutes > 1 else "a minute or two"
 
     def end(self, name):

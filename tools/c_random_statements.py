@@ -5,6 +5,10 @@ from c_random_expressions import Expressions
 from c_random_trees import KINDS, E, S, Var, hull, inside, span
 
 
+# The statements that give a name, their first word.
+DECLARES = ("declare", "static", "array", "struct", "pointer")
+
+
 class Statements(Expressions):
     """Makes statements. `branch` is how deep they stand in branches, `back` the type of the
     function's value, `structs` the fields of the file's struct."""
@@ -177,6 +181,8 @@ class Statements(Expressions):
         self.scopes.append({name: Var(name, kind, (0, turns if sort != "for" else turns - 1),
                                       left=False)})
         body = self.nested(self.chance.randint(1, 2), deep - 1)
+        # the body takes a step or a test of the counter, which nothing in it may hide
+        hides = any(it.op in DECLARES and it.args[0] == name for it in body)
         if self.odds(0.15) and sort == "for":
             at = self.chance.randrange(turns)
             c = E("compare", INT, (0, 1), "%s == %d" % (name, at), 9, {name}, "==", i,
@@ -187,6 +193,8 @@ class Statements(Expressions):
                                                              None))
         self.scopes.pop()
         self.loops -= 1
+        if hides:
+            return []
         step = E("step", kind, (0, 0), "", 14, {name}, "-" if down else "+", True, i,
                  met(kind, INT))
         stepped = S("expr", "%s%s;" % (name, "--" if down else "++"), step)

@@ -45,6 +45,10 @@ class Judged(unittest.TestCase):
         self.assertLess(broken, len(QUICK) - 5)
         self.assertGreater(sum(how in ("paths", "joined") for how in ended), 15)
 
+    def test_no_body_hides_its_counter(self):
+        # a struct in a loop's body once had the name that the loop counts by
+        self.assertEqual(self.judged([101603])[0], [])
+
     def test_verdicts(self):
         faults, ended, _ = self.judged(FULL, False)
         self.assertEqual(faults, [])
