@@ -109,11 +109,9 @@ pub fn run_batch<F: Folder, O: Sink, G: Gate, R: Threads + Wait + Sync>(
     requires { AreInBatchRange request }
     // Each status comes only with its lines; where all that is read is told, that status comes
     // which has them, whatever the workers' number and schedule.
-    ensures run { let before = seen (F.told folder.old) (O.taken out.old)
-        (F.read_faults folder.old) (F.write_faults folder.old) (O.faults out.old) in
-        let after = seen (F.told folder.new) (O.taken out.new)
-        (F.read_faults folder.new) (F.write_faults folder.new) (O.faults out.new) in
-        IsBatchRun (batch_of request.entry) (run before after result) }
+    ensures run { IsBatchRun (batch_of request.entry)
+        (run (seen F.Folder O.Sink folder.old out.old) (seen F.Folder O.Sink folder.new out.new)
+        result) }
 {
     list_faults_are_one();
     text_answers_are_one();

@@ -23,11 +23,9 @@ pub fn run_check<F: Folder, O: Sink>(
     folder: &mut F,
     out: &mut O,
 ) -> Status
-    ensures run { let before = seen (F.told folder.old) (O.taken out.old)
-        (F.read_faults folder.old) (F.write_faults folder.old) (O.faults out.old) in
-        let after = seen (F.told folder.new) (O.taken out.new)
-        (F.read_faults folder.new) (F.write_faults folder.new) (O.faults out.new) in
-        IsCheckRun (check_of request.entry) (run before after result) }
+    ensures run { IsCheckRun (check_of request.entry)
+        (run (seen F.Folder O.Sink folder.old out.old) (seen F.Folder O.Sink folder.new out.new)
+        result) }
 {
     check_answers_are_one();
     match read_text(alloc, folder, request.script, MOST) {

@@ -2,6 +2,8 @@
 use Rattle.std.specs.Prelude.{◌≡◌, ℕ, List, Option}
 use Rattle.std.specs.Io.KnownBytes.{Appends, Keeps}
 use Rattle.fx_edge.specs.Outside.{Rose}
+use Rattle.fx_edge.specs.declared.outside.Folder.{Ghosts as OfFolder}
+use Rattle.fx_edge.specs.declared.outside.Sink.{Ghosts as OfSink}
 use Rattle.whole_texts.specs.Pieces.{AppendsFront}
 use Rattle.command_runs.specs.declared.status.Status.{Status}
 
@@ -22,10 +24,21 @@ pub record Seen : Type 0 where
   pub writes : ℕ
   pub puts : ℕ
 
--- What is seen at one time: what is told, and these counts of reads, writes and puts that failed.
-abbrev pub seen : Told → Option Bytes → ℕ → ℕ → ℕ → Seen
-seen told taken reads writes puts =
-    record { told = told; taken = taken; reads = reads; writes = writes; puts = puts }
+-- What is seen of a sink, beside a folder that tells this and has these counts of reads and writes
+-- that failed.
+abbrev pub seen_beside : {S : Type 0} → Told → ℕ → ℕ → OfSink S → S → Seen
+seen_beside told reads writes sink out = record {
+  told = told;
+  taken = sink.taken out;
+  reads = reads;
+  writes = writes;
+  puts = sink.faults out;
+}
+
+-- What is seen of a folder and a sink.
+abbrev pub seen : {D S : Type 0} → OfFolder D → OfSink S → D → S → Seen
+seen folder sink files out = seen_beside (folder.told files) (folder.read_faults files)
+    (folder.write_faults files) sink out
 
 -- What is seen before a run and after it, and its status.
 pub record Run : Type 0 where

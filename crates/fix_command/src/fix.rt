@@ -41,11 +41,9 @@ pub fn run_fix<F: Folder, O: Sink>(
 ) -> Status
     // Each status comes only with its line and what it leaves in the script's file; where the
     // program's text is told, that status comes which has them.
-    ensures run { let before = seen (F.told folder.old) (O.taken out.old)
-        (F.read_faults folder.old) (F.write_faults folder.old) (O.faults out.old) in
-        let after = seen (F.told folder.new) (O.taken out.new)
-        (F.read_faults folder.new) (F.write_faults folder.new) (O.faults out.new) in
-        IsFixRun (fix_of request.entry) (run before after result) }
+    ensures run { IsFixRun (fix_of request.entry)
+        (run (seen F.Folder O.Sink folder.old out.old) (seen F.Folder O.Sink folder.new out.new)
+        result) }
 {
     texts_are_one();
     let text = match read_text(alloc, folder, request.program, MOST_BYTES + 1) {

@@ -30,11 +30,9 @@ fn run_wanted<R: Threads + Wait + Sync, F: Folder, O: Sink, G: Gate>(
     gate: &G,
 ) -> Status
     requires { IsSound wanted }
-    ensures { let before = seen (F.told folder.old) (O.taken out.old)
-        (F.read_faults folder.old) (F.write_faults folder.old) (O.faults out.old) in
-        let after = seen (F.told folder.new) (O.taken out.new)
-        (F.read_faults folder.new) (F.write_faults folder.new) (O.faults out.new) in
-        IsRun (Some (command_from wanted.entry)) (run before after result) }
+    ensures { IsRun (Some (command_from wanted.entry))
+        (run (seen F.Folder O.Sink folder.old out.old) (seen F.Folder O.Sink folder.new out.new)
+        result) }
 {
     match wanted {
         Invocation::Prove(request) => run_prove(rt, alloc, request, folder, out, gate),
@@ -73,11 +71,9 @@ pub fn fx_run<R: Threads + Wait + Sync, F: Folder, O: Sink, G: Gate>(
     // left what the file held or a front of such bytes. Where the folder tells what is read, the
     // defined status comes, or else a fault of the outside or lack of memory. No other name's bytes
     // change.
-    ensures run { let before = seen (F.told folder.old) (O.taken out.old)
-        (F.read_faults folder.old) (F.write_faults folder.old) (O.faults out.old) in
-        let after = seen (F.told folder.new) (O.taken out.new)
-        (F.read_faults folder.new) (F.write_faults folder.new) (O.faults out.new) in
-        IsRun (reading (map string_bytes words.now)) (run before after result) }
+    ensures run { IsRun (reading (map string_bytes words.now))
+        (run (seen F.Folder O.Sink folder.old out.old) (seen F.Folder O.Sink folder.new out.new)
+        result) }
 {
     match command_of(alloc, words) {
         Ok(wanted) => run_wanted(rt, alloc, wanted, folder, out, gate),

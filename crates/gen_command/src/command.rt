@@ -1,6 +1,6 @@
 // What `gen` does.
 ghost use Rattle.std.specs.Prelude.{ℕ};
-ghost use Rattle.command_runs.specs.Runs.{Told, run, seen};
+ghost use Rattle.command_runs.specs.Runs.{Told, run, seen_beside};
 ghost use Rattle.gen_command.specs.Command.{IsGenRun};
 
 use command_runs::{Status, print};
@@ -21,9 +21,8 @@ pub fn run_gen<O: Sink, G: Gate, R: Threads + Wait + Sync>(
 ) -> Status
     // So it is with any folder, since none is touched.
     ensures run { (told : Told) (reads writes : ℕ) →
-        let before = seen told (O.taken out.old) reads writes (O.faults out.old) in
-        let after = seen told (O.taken out.new) reads writes (O.faults out.new) in
-        IsGenRun n (run before after result) }
+        IsGenRun n (run (seen_beside told reads writes O.Sink out.old)
+        (seen_beside told reads writes O.Sink out.new) result) }
 {
     made_answers_are_one();
     match made_answer(rt, alloc, n, gate) {

@@ -50,11 +50,9 @@ pub fn run_prove<F: Folder, O: Sink, G: Gate, R: Threads + Wait + Sync>(
     // before the file is whole. Each other status comes with its lines, and no file changes.
     // Where the script's text is told, its status comes, or else a fault of the outside or lack of
     // memory.
-    ensures run { let before = seen (F.told folder.old) (O.taken out.old)
-        (F.read_faults folder.old) (F.write_faults folder.old) (O.faults out.old) in
-        let after = seen (F.told folder.new) (O.taken out.new)
-        (F.read_faults folder.new) (F.write_faults folder.new) (O.faults out.new) in
-        IsProveRun (asked_of request.entry) (run before after result) }
+    ensures run { IsProveRun (asked_of request.entry)
+        (run (seen F.Folder O.Sink folder.old out.old) (seen F.Folder O.Sink folder.new out.new)
+        result) }
 {
     text_answers_are_one();
     match read_text(alloc, folder, request.script, MOST) {

@@ -46,11 +46,9 @@ pub fn run_upgrade<F: Folder, O: Sink>(
     out: &mut O,
 ) -> Status
     requires { request.cert.now ≢ request.new.now }
-    ensures { let before = seen (F.told folder.old) (O.taken out.old)
-        (F.read_faults folder.old) (F.write_faults folder.old) (O.faults out.old) in
-        let after = seen (F.told folder.new) (O.taken out.new)
-        (F.read_faults folder.new) (F.write_faults folder.new) (O.faults out.new) in
-        IsUpgradeRun (upgrade_of request.entry) (run before after result) }
+    ensures { IsUpgradeRun (upgrade_of request.entry)
+        (run (seen F.Folder O.Sink folder.old out.old) (seen F.Folder O.Sink folder.new out.new)
+        result) }
 {
     items_are_one();
     match upgrade(alloc, folder, request.cert, request.new) {

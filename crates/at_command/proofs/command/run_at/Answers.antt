@@ -21,11 +21,8 @@ returns-in-Ok-at_answer g c = record {
       let s = c.in-Ok-at_answer.status in
       let lines = c.in-Ok-at_answer.lines.items in
       let found = c.in-Ok-at_answer.ensures in
-      let before = seen (f.told here) (o.taken c.args.out.now) (f.read_faults here)
-      (f.write_faults here) (o.faults c.args.out.now) in
-      let after = seen (f.told there) (o.taken c.print.new.out) (f.read_faults there)
-      (f.write_faults there) (o.faults c.print.new.out) in
-      let r : Run = run before after c.print.result in
+      let r : Run = run (seen f o here c.args.out.now) (seen f o there c.print.new.out)
+      c.print.result in
       put_is c.at_answers_are_one.ensures a r
       (λ name. found.only_reads.told name ∙ reads.told name) read
       (subst (IsText 1048577 (f.told here a.script)) (search rules) c.in-Ok.ensures.text) s lines
@@ -43,11 +40,8 @@ returns-in-Ok g c = record {
       let here = c.args.folder.now in
       let there = c.at_answer.new.folder in
       let stopped = c.in-Err-at_answer.ensures in
-      let before = seen (f.told here) (o.taken c.args.out.now) (f.read_faults here)
-      (f.write_faults here) (o.faults c.args.out.now) in
-      let after = seen (f.told there) (o.taken c.print_stop.new.out) (f.read_faults there)
-      (f.write_faults there) (o.faults c.print_stop.new.out) in
-      let r : Run = run before after c.print_stop.result in
+      let r : Run = run (seen f o here c.args.out.now) (seen f o there c.print_stop.new.out)
+      c.print_stop.result in
       pointless_is c.at_answers_are_one.ensures a r
       (λ name. stopped.only_reads.told name ∙ reads.told name) c.deref.result.now
       (subst (IsText 1048577 (f.told here a.script)) (search rules) c.in-Ok.ensures.text)
@@ -67,12 +61,8 @@ returns g c = record {
       let o = g.O.Sink in
       let here = c.args.folder.now in
       let there = c.read_text.new.folder in
-      let out = c.print_stop-in-Err.new.out in
-      let before = seen (f.told here) (o.taken c.args.out.now) (f.read_faults here)
-      (f.write_faults here) (o.faults c.args.out.now) in
-      let after = seen (f.told there) (o.taken out) (f.read_faults there) (f.write_faults there)
-      (o.faults out) in
       unread_is c.at_answers_are_one.ensures (at_of c.args.request)
-      (run before after c.print_stop-in-Err.result) c.in-Err.ensures.only_reads.told c.in-Err.stop
+      (run (seen f o here c.args.out.now) (seen f o there c.print_stop-in-Err.new.out)
+      c.print_stop-in-Err.result) c.in-Err.ensures.only_reads.told c.in-Err.stop
       (λ e. c.in-Err.ensures.only_reads.cause (ap Err e)) c.print_stop-in-Err.ensures;
 }
