@@ -3,7 +3,6 @@ use Rattle.std.specs.Prelude.{⊤}
 use Rattle.std.proofs.Common.{◌≡◌, ◌≢◌, Option, None, refl, sym, subst, inl, inr}
 use Rattle.script_grammar.specs.Spells.{View, Spells}
 use Rattle.command_line.specs.At.{AskedAt}
-use Rattle.whole_texts.specs.Texts.{IsText}
 use Rattle.whole_texts.specs.declared.read.ReadStop.{ReadStop}
 use Rattle.whole_texts.specs.declared.read.ReadStop.TheVariants as stop
 use Rattle.command_runs.proofs.Ends.{IsOnce, IsPutBy, IsStopPutBy, or_unread, put_runs, run_by}
@@ -15,7 +14,7 @@ use Rattle.command_runs.specs.Runs.{Bytes, Run, IsKept, ReadFailed}
 use Rattle.command_runs.specs.declared.status.Status.{Status}
 use Rattle.command_runs.specs.declared.status.Status.TheVariants as status
 use Rattle.script_texts.proofs.Texts.{IsLong, long_refused, no_script, told_script, told_text}
-use Rattle.script_texts.specs.Texts.{ReadsBehind}
+use Rattle.script_texts.specs.Texts.{IsScriptText, ReadsBehind}
 use Rattle.at_command.specs.Told.{AtPrints}
 use Rattle.at_command.specs.Command.{AtFate, AtTold, IsAtRun}
 use Rattle.at_command.specs.Laws.{AtAnswersAreOne, IsPointTold}
@@ -88,7 +87,7 @@ module _ (law : AtAnswersAreOne) (a : AskedAt) (r : Run)
       → IsStopPutBy why a.script r → IsAtRun a r
   unread_is why failed put = stop_is why a.script (λ e. (inl refl, failed e)) put
 
-  module _ (read : Bytes) (is : IsText 1048577 (r.before.told a.script) read) where
+  module _ (read : Bytes) (is : IsScriptText (r.before.told a.script) read) where
     -- the script was read, and the point wasn't
     pub pointless_is : (why : ReadStop)
         → (why ≡ stop.Fault → ((s : View) × Spells read s) × ReadFailed r)

@@ -8,11 +8,8 @@ use crate::point::at_answer;
 use command_line::AtRequest;
 use command_runs::{Status, print, print_stop};
 use fx_edge::{Folder, Sink};
+use script_texts::read_script;
 use std::alloc::Global;
-use whole_texts::read_text;
-
-// How much of a script's text is read, in bytes: one more than a script may have.
-const MOST: usize = (1 << 20) + 1;
 
 /// Reads a script and then a point, and puts what the script's claims and assumed hints are at the
 /// point; or the point's first fault, or the first place with a number that is too wide. The point
@@ -30,7 +27,7 @@ pub fn run_at<F: Folder, O: Sink>(
         result) }
 {
     at_answers_are_one();
-    match read_text(alloc, folder, request.script, MOST) {
+    match read_script(alloc, folder, request.script) {
         Ok(text) => match at_answer(alloc, &text, request.point, folder) {
             Ok((status, lines)) => print(out, &lines, status),
             Err(stop) => print_stop(alloc, request.point, stop, out),

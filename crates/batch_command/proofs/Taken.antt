@@ -7,13 +7,13 @@ use Rattle.std.specs.declared.alloc.Global.{Global}
 use Rattle.std.proofs.Common.{arith, ap, sym, ◌∙◌, inl, inr, get_or}
 use Rattle.std.proofs.lemmas.List.{length-map}
 use Rattle.std.proofs.Math.Nat.{suc-add}
-use Rattle.whole_texts.specs.Texts.{IsText}
 use Rattle.command_runs.specs.Runs.{Bytes, Told}
+use Rattle.script_texts.specs.Texts.{IsScriptText}
 use Rattle.batch_command.specs.Command.{IsIn}
 use Rattle.batch_command.specs.Told.{AreRead}
 
 pub one_more : (told : Told) (names : List Bytes) (texts : List (Vec ℕ Global)) (name : Bytes)
-    (text : Vec ℕ Global) → AreRead told names texts → IsText 1048577 (told name) text.items
+    (text : Vec ℕ Global) → AreRead told names texts → IsScriptText (told name) text.items
     → AreRead told (names ++ name ∷ []) (texts ++ text ∷ [])
 one_more told [] [] name text r is = (is, tt)
 one_more told [] (t ∷ texts) name text r is = absurd r

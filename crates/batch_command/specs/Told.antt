@@ -4,12 +4,12 @@ use Rattle.std.specs.declared.vec.Vec.{Vec}
 use Rattle.std.specs.declared.alloc.Global.{Global}
 use Rattle.settler.specs.Answers.{Options}
 use Rattle.command_line.specs.Batch.{AskedBatch}
-use Rattle.whole_texts.specs.Texts.{IsText}
 use Rattle.command_runs.specs.Runs.{Bytes, Told}
 use Rattle.command_runs.specs.Fates.{OfText}
 use Rattle.command_runs.specs.Statuses.{read_fault_line}
 use Rattle.command_runs.specs.declared.status.Status.{Status}
 use Rattle.command_runs.specs.declared.status.Status.TheVariants as status
+use Rattle.script_texts.specs.Texts.{IsScriptText}
 use Rattle.script_answers.specs.Answers.{ProvePrints}
 use Rattle.batch_command.specs.Lines.{script_line}
 use Rattle.batch_command.specs.Command.{IsBatch, ListPrints, ReadsListed, IsIn, first_other}
@@ -20,7 +20,7 @@ use Rattle.batch_command.specs.declared.read.Texts.TheVariants as texts
 abbrev pub AreRead : Told → List Bytes → List (Vec ℕ Global) → Type 0
 AreRead told [] [] = ⊤
 AreRead told (name ∷ names) (text ∷ later) =
-    IsText 1048577 (told name) text.items × AreRead told names later
+    IsScriptText (told name) text.items × AreRead told names later
 AreRead told _ _ = ⊥
 
 -- The texts of the names; or the line of one that wasn't read, as a read failed.

@@ -6,11 +6,9 @@ ghost use Rattle.batch_command.specs.Told.{AreTexts};
 
 use command_runs::read_fault_line;
 use fx_edge::Folder;
+use script_texts::read_script;
 use std::alloc::{AllocError, Global};
-use whole_texts::{ReadStop, read_text};
-
-/// How much of a script's text is read, in bytes: one more than a script may have.
-const MOST: usize = (1 << 20) + 1;
+use whole_texts::ReadStop;
 
 /// What came of reading the names of a list.
 #[derive(Drop)]
@@ -33,7 +31,7 @@ pub fn read_scripts<F: Folder>(
 {
     let mut texts = Vec::new(alloc);
     for name in names {
-        match read_text(alloc, folder, name, MOST) {
+        match read_script(alloc, folder, name) {
             Ok(text) => texts.push(text)?,
             Err(ReadStop::Fault) => return Ok(Texts::Unread(read_fault_line(alloc, name)?)),
             Err(ReadStop::OutOfMemory) => return Err(AllocError),

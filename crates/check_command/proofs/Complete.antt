@@ -15,9 +15,9 @@ use Rattle.cert_checker.specs.Contexts.{Context}
 use Rattle.cert_checker.specs.Outcomes.{Outcome, accepted, SpelledAreAccepted}
 use Rattle.cert_checker.specs.Checking.{IsAnswer}
 use Rattle.script_checker.specs.Checking.{ComesFor, AreAcceptedFor}
-use Rattle.whole_texts.specs.Texts.{IsText}
 use Rattle.command_runs.specs.Runs.{Bytes, Told}
 use Rattle.script_texts.proofs.Texts.{read_whole}
+use Rattle.script_texts.specs.Texts.{IsScriptText}
 use Rattle.check_command.specs.Checked.{IsAcceptable}
 
 comes_of : SpelledAreAccepted → SpellsOnce → (s : View) → Spells s.text s → (all : Bytes)
@@ -58,7 +58,7 @@ not_refused end why f e a = subst (λ (t : CheckStop). IsAnswer (accepted end) (
 
 -- a text with a script was read whole
 pub acceptable_read : (known : Option Bytes) (text read all : Bytes) → known ≡ Some text
-    → IsText 1048577 known read → IsAcceptable text all → IsAcceptable read all
+    → IsScriptText known read → IsAcceptable text all → IsAcceptable read all
 acceptable_read known text read all e is p =
     subst (λ (w : Bytes). IsAcceptable w all)
     (sym (read_whole known text read p.script e is p.spelled)) p

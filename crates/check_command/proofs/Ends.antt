@@ -3,7 +3,6 @@ use Rattle.std.specs.Prelude.{⊤}
 use Rattle.std.proofs.Common.{◌≡◌, ◌≢◌, Option, Some, None, refl, sym, subst, inl, inr}
 use Rattle.script_grammar.specs.Spells.{View, Spells}
 use Rattle.command_line.specs.Check.{AskedCheck}
-use Rattle.whole_texts.specs.Texts.{IsText}
 use Rattle.whole_texts.specs.declared.read.ReadStop.{ReadStop}
 use Rattle.whole_texts.specs.declared.read.ReadStop.TheVariants as stop
 use Rattle.command_runs.proofs.Ends.{IsOnce, IsPutBy, IsStopPutBy, or_unread, put_comes, put_runs}
@@ -15,7 +14,7 @@ use Rattle.command_runs.specs.Runs.{Bytes, Run, IsKept, ReadFailed}
 use Rattle.command_runs.specs.declared.status.Status.{Status}
 use Rattle.command_runs.specs.declared.status.Status.TheVariants as status
 use Rattle.script_texts.proofs.Texts.{IsLong, long_refused, no_script, told_script, told_text}
-use Rattle.script_texts.specs.Texts.{ReadsBehind}
+use Rattle.script_texts.specs.Texts.{IsScriptText, ReadsBehind}
 use Rattle.check_command.specs.Checked.{CheckPrints, IsAcceptable}
 use Rattle.check_command.specs.Command.{CheckFate, CheckTold, IsCheckRun}
 use Rattle.check_command.specs.Laws.{CheckAnswersAreOne, IsCertTold}
@@ -89,7 +88,7 @@ module _ (law : CheckAnswersAreOne) (a : AskedCheck) (r : Run)
       → IsStopPutBy why a.script r → IsCheckRun a r
   script_stop_is why met put = stop_is why a.script (λ e. (inl refl, met e)) put
 
-  module _ (read : Bytes) (is : IsText 1048577 (r.before.told a.script) read) where
+  module _ (read : Bytes) (is : IsScriptText (r.before.told a.script) read) where
     -- it was read, and the certificate wasn't
     pub cert_stop_is : (why : ReadStop)
         → (why ≡ stop.Fault → ((s : View) × Spells read s) × ReadFailed r)

@@ -8,11 +8,8 @@ use crate::laws::check_answers_are_one;
 use command_line::CheckRequest;
 use command_runs::{Status, print, print_stop};
 use fx_edge::{Folder, Sink};
+use script_texts::read_script;
 use std::alloc::Global;
-use whole_texts::read_text;
-
-// How much of a script's text is read, in bytes: one more than a script may have.
-const MOST: usize = (1 << 20) + 1;
 
 /// Reads a script and then a certificate of it, and puts the lines that it shows, where it is
 /// accepted for the script; else its first fault. It is read only where the script's text spells a
@@ -28,7 +25,7 @@ pub fn run_check<F: Folder, O: Sink>(
         result) }
 {
     check_answers_are_one();
-    match read_text(alloc, folder, request.script, MOST) {
+    match read_script(alloc, folder, request.script) {
         Ok(text) => match check_answer(alloc, &text, request.cert, folder) {
             Ok((status, lines)) => print(out, &lines, status),
             Err(stop) => print_stop(alloc, request.cert, stop, out),

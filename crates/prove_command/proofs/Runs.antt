@@ -3,7 +3,6 @@ use Rattle.std.specs.Prelude.{◌≡◌, ◌≢◌, ℕ, Option, Some, None, Res
 use Rattle.std.proofs.Common.{inl, inr, refl, subst, ◌∙◌}
 use Rattle.settler.specs.Answers.{Options}
 use Rattle.command_line.specs.Reading.{Asked}
-use Rattle.whole_texts.specs.Texts.{IsText}
 use Rattle.whole_texts.specs.declared.read.ReadStop.{ReadStop}
 use Rattle.whole_texts.specs.declared.read.ReadStop.TheVariants as stop
 use Rattle.command_runs.specs.Runs.{Bytes, Told, Run, IsKept, ReadFailed}
@@ -16,6 +15,7 @@ use Rattle.command_runs.proofs.Ends.{unwritten_runs}
 use Rattle.command_runs.specs.declared.status.Status.{Status}
 use Rattle.command_runs.specs.declared.status.Status.TheVariants as status
 use Rattle.script_texts.proofs.Texts.{told_text}
+use Rattle.script_texts.specs.Texts.{IsScriptText}
 use Rattle.script_answers.specs.Answers.{ProvePrints, options_of}
 use Rattle.script_answers.specs.Laws.{TextAnswersAreOne}
 use Rattle.script_answers.proofs.LawsLaws.{prints_done}
@@ -74,7 +74,7 @@ module _ (law : TextAnswersAreOne) (a : Asked) (r : Run) where
 
   -- lines were made of the text that was read
   module _ (others : (other : Bytes) → a.cert ≢ Some other → IsKept r other) (text : Bytes)
-      (read : IsText 1048577 (r.before.told a.script) text) (s : Status) (lines : Bytes)
+      (read : IsScriptText (r.before.told a.script) text) (s : Status) (lines : Bytes)
       (left : Left) where
     -- they have a fate
     fate_of : (C : Type 0) → (C → IsCutOff r) → TextFate C a.cert (options_of a) text s lines left
@@ -108,7 +108,7 @@ module _ (law : TextAnswersAreOne) (a : Asked) (r : Run) where
 
   pub certified : (c : Certified) (text : Bytes)
       → ((other : Bytes) → a.cert ≢ Some other → IsKept r other)
-      → IsText 1048577 (r.before.told a.script) text
+      → IsScriptText (r.before.told a.script) text
       → IsCertified (options_of a) text a.cert r.before.told r.after.told c
       → HasWriteCause r.before.writes r.after.writes c.written
       → IsPutBehind c.written c.status c.lines.items
@@ -119,7 +119,7 @@ module _ (law : TextAnswersAreOne) (a : Asked) (r : Run) where
 
   -- the same, where the folder told the same when the text had been read
   pub certified_read : (c : Certified) (o : Options) (text : Bytes) (middle : Told) (writes : ℕ)
-      → o ≡ options_of a → IsText 1048577 (r.before.told a.script) text
+      → o ≡ options_of a → IsScriptText (r.before.told a.script) text
       → ((n : Bytes) → middle n ≡ r.before.told n) → writes ≡ r.before.writes
       → ((other : Bytes) → a.cert ≢ Some other → r.after.told other ≡ middle other)
       → IsCertified o text a.cert middle r.after.told c

@@ -10,13 +10,10 @@ use command_line::Request;
 use command_runs::{Status, print, print_stop};
 use fx_edge::{Folder, Gate, Sink};
 use script_answers::{options_of, text_answers_are_one};
+use script_texts::read_script;
 use std::alloc::Global;
 use std::sync::Wait;
 use std::thread::Threads;
-use whole_texts::read_text;
-
-// One more than the bytes of the longest script.
-const MOST: usize = 1_048_577;
 
 // Puts the lines of a text, where all that was to be written for it is.
 fn put_certified<O: Sink>(out: &mut O, certified: &Certified) -> Status
@@ -55,7 +52,7 @@ pub fn run_prove<F: Folder, O: Sink, G: Gate, R: Threads + Wait + Sync>(
         result) }
 {
     text_answers_are_one();
-    match read_text(alloc, folder, request.script, MOST) {
+    match read_script(alloc, folder, request.script) {
         Ok(text) => {
             let options = options_of(request);
             match certify_text(rt, alloc, &text, options, folder, request.cert, gate) {

@@ -11,11 +11,10 @@ use Rattle.script_judge.specs.Reading.{refusal, too_long, not_text}
 use Rattle.script_judge.specs.First as first
 use Rattle.script_judge.specs.First.{IsFirstRefusal, FirstsAreUnique}
 use Rattle.script_grammar.specs.Spells.{View, Spells, IsRefused}
-use Rattle.whole_texts.specs.Texts.{IsText}
 use Rattle.command_runs.specs.Runs.{Bytes, Told}
 use Rattle.command_runs.specs.Fates.{IsTold}
 use Rattle.report.specs.Lines.{refusal_line}
-use Rattle.script_texts.specs.Texts.{OfScript, IsRefusedWith}
+use Rattle.script_texts.specs.Texts.{IsRefusedWith, IsScriptText, OfScript}
 
 -- ---- what is so of a text
 -- there is one such line at most
@@ -60,7 +59,7 @@ long_refused t text lines a b (r, p, e) = (r, long_refusal t text r a b p, e)
 abbrev Either : Bytes → Bytes → Type 0
 Either all read = (read ≡ all) ⊎ (IsLong all × IsLong read)
 
-pub read_or_long : (all read : Bytes) → IsText 1048577 (Some all) read → Either all read
+pub read_or_long : (all read : Bytes) → IsScriptText (Some all) read → Either all read
 read_or_long all read e = by (cases_lt 1048577 (length all)) where
   by : (1048577 < length all) ⊎ (length all ≤ 1048577) → Either all read
   by (inl long) = inr (
@@ -79,23 +78,23 @@ module _ (P : Bytes → Type 0)
   told_all all read (inl e) p = (all, refl, subst P e p)
   told_all all read (inr (a, b)) p = (all, refl, long all read a b p)
 
-  pub told_text : (known : Option Bytes) (read : Bytes) → IsText 1048577 known read → P read
+  pub told_text : (known : Option Bytes) (read : Bytes) → IsScriptText known read → P read
       → (t : Bytes) × IsTold known t × P t
   told_text None read is p = (read, tt, p)
   told_text (Some all) read is p = told_all all read (read_or_long all read is) p
 
 -- a told text that spells a script was read whole
 pub read_whole : (known : Option Bytes) (text read : Bytes) (s : View) → known ≡ Some text
-    → IsText 1048577 known read → Spells text s → read ≡ text
+    → IsScriptText known read → Spells text s → read ≡ text
 read_whole known text read s e is spelled =
-    by (read_or_long text read (subst (λ k. IsText 1048577 k read) e is)) where
+    by (read_or_long text read (subst (λ k. IsScriptText k read) e is)) where
       by : Either text read → read ≡ text
       by (inl same) = same
       by (inr (a, b)) = absurd (no_script text s a spelled)
 
 -- what spells a script that was read spells one that is told
 pub told_script : (told : Told) (name read : Bytes) (P : View → Type 0)
-    → IsText 1048577 (told name) read → (s : View) × Spells read s × P s → OfScript told name P
+    → IsScriptText (told name) read → (s : View) × Spells read s × P s → OfScript told name P
 told_script told name read P is p =
     told_text (λ w. (s : View) × Spells w s × P s)
     (λ t text a b q. absurd (no_script text q.0 b q.1)) (told name) read is p

@@ -2,6 +2,8 @@
 //! spells none.
 #![tactic(auto)]
 
+mod reading;
 mod refused;
 
+pub use reading::read_script;
 pub use refused::refused_line;

@@ -3,7 +3,6 @@ use Rattle.std.specs.Prelude.{◌⊎◌, ⊤}
 use Rattle.std.proofs.Common.{◌≡◌, ◌≢◌, ◌∙◌, Option, Some, refl, sym, subst, inl, inr}
 use Rattle.script_grammar.specs.Spells.{View, Spells}
 use Rattle.command_line.specs.Trim.{AskedTrim}
-use Rattle.whole_texts.specs.Texts.{IsText}
 use Rattle.whole_texts.specs.declared.read.ReadStop.{ReadStop}
 use Rattle.whole_texts.specs.declared.read.ReadStop.TheVariants as stop
 use Rattle.command_runs.proofs.Ends.{IsOnce, IsPutBy, IsStopPutBy, exhausted_runs, all_kept}
@@ -18,7 +17,7 @@ use Rattle.command_runs.specs.Runs.{Bytes, Told, Run, IsKept, IsSilent, ReadFail
 use Rattle.command_runs.specs.declared.status.Status.{Status}
 use Rattle.command_runs.specs.declared.status.Status.TheVariants as status
 use Rattle.script_texts.proofs.Texts.{IsLong, long_refused, no_script, told_script, told_text}
-use Rattle.script_texts.specs.Texts.{ReadsBehind}
+use Rattle.script_texts.specs.Texts.{IsScriptText, ReadsBehind}
 use Rattle.check_command.specs.Laws.{IsCertTold}
 use Rattle.trim_command.specs.Command.{TrimFate, TrimTold, IsTrimRun}
 use Rattle.trim_command.specs.Laws.{AcceptableAreTrimmed, TrimAnswersAreOne}
@@ -127,7 +126,7 @@ module _ (law : TrimAnswersAreOne) (trims : AcceptableAreTrimmed) (a : AskedTrim
       (stop_runs (Some a.new) (TrimFate a r) r why name (all_kept a.new r others same)
       (λ e. let m = met e in (name, m.0, m.1, refl, refl)) put)
 
-  module _ (read : Bytes) (is : IsText 1048577 (r.before.told a.script) read)
+  module _ (read : Bytes) (is : IsScriptText (r.before.told a.script) read)
       (mid : Told) (unchanged : (n : Bytes) → mid n ≡ r.before.told n) where
     -- an answer to the text that was read is one to the told text
     told_so : (s : Status) (lines : Bytes) (left : Left) → TrimPrints read known s lines left

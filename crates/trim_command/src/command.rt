@@ -9,11 +9,9 @@ use crate::stop::TrimStop;
 use command_line::TrimRequest;
 use command_runs::{Status, print, print_stop};
 use fx_edge::{Folder, Sink};
+use script_texts::read_script;
 use std::alloc::Global;
-use whole_texts::{ReadStop, read_text};
-
-// How much of a script's text is read, in bytes: one more than a script may have.
-const MOST: usize = (1 << 20) + 1;
+use whole_texts::ReadStop;
 
 /// Reads a script and then a certificate of it, which it writes to the new file in version 2,
 /// without its unused steps, where it is accepted for the script; and puts how many steps are left,
@@ -30,7 +28,7 @@ pub fn run_trim<F: Folder, O: Sink>(
         result) }
 {
     trim_answers_are_one();
-    match read_text(alloc, folder, request.script, MOST) {
+    match read_script(alloc, folder, request.script) {
         Ok(text) => match trim_answer(alloc, &text, request.cert, folder, request.new) {
             Ok((status, lines)) => print(out, &lines, status),
             Err(TrimStop::Unread) => print_stop(alloc, request.cert, ReadStop::Fault, out),

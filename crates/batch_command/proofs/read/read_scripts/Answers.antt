@@ -3,8 +3,8 @@ use Rattle.std.proofs.Common.{string_bytes, subst, sym, take}
 use Rattle.fx_edge.proofs.OnlyReads.{only_reads_on}
 use Rattle.fx_edge.specs.Outside.{Rose}
 use Rattle.fx_edge.proofs.OutsideLaws.{rose_later}
-use Rattle.whole_texts.specs.Texts.{IsText}
 use Rattle.command_runs.specs.Statuses.{read_fault_line}
+use Rattle.script_texts.specs.Texts.{IsScriptText}
 use Rattle.batch_command.specs.Told.{AreRead}
 use Rattle.batch_command.proofs.Taken.{is_in, one_more, take_more}
 use Rattle.batch_command.proofs.read.read_scripts.Goals as goal
@@ -17,12 +17,12 @@ returns-in-Err-Fault-clause-texts g c =
     let faults = g.F.Folder.read_faults in
     let same : c.deref-in-Err-Fault.result.now ≡ string_bytes name = search rules in
     let h : i < length all = omega arith in
-    let rose : Rose (faults c.loop-name.folder) (faults c.read_text.new.folder) =
-    c.read_text.ensures.only_reads.cause (search rules) in (
+    let rose : Rose (faults c.loop-name.folder) (faults c.read_script.new.folder) =
+    c.read_script.ensures.only_reads.cause (search rules) in (
       string_bytes name,
       is_in all i name h c.name-item.is,
       rose_later (faults c.args.folder.now) (faults c.loop-name.folder)
-          (faults c.read_text.new.folder) c.loop-name.invariant.only_reads.later rose,
+          (faults c.read_script.new.folder) c.loop-name.invariant.only_reads.later rose,
       c.in_ok-read_fault_line-in-Err-Fault.ensures ∙ ap read_fault_line same,
     )
 
@@ -35,11 +35,11 @@ loop-name-preserved g c =
     let inv = c.loop-name.invariant in
     let same : c.deref.result.now ≡ string_bytes name = search rules in
     let h : i < length all = omega arith in
-    let is : IsText 1048577 (told (string_bytes name)) c.in-Ok.text.items =
-    subst (λ k. IsText 1048577 k c.in-Ok.text.items)
+    let is : IsScriptText (told (string_bytes name)) c.in-Ok.text.items =
+    subst (λ k. IsScriptText k c.in-Ok.text.items)
     (inv.only_reads.told c.deref.result.now ∙ ap told same) c.in-Ok.ensures.text in
     record {
-      only_reads = only_reads_on inv.only_reads c.read_text.ensures.only_reads;
+      only_reads = only_reads_on inv.only_reads c.read_script.ensures.only_reads;
       read =
           subst (λ names. AreRead told names c.push.new.self.items)
           (sym (take_more all i name h c.name-item.is))
