@@ -192,13 +192,12 @@ fn certify_over<F: Folder, G: Gate, R: Threads + Wait + Sync>(
 fn certify_unbuilt(
     alloc: Global,
     script: &Script<'_>,
-    options: Options,
     fault: UniverseFault,
 ) -> Result<Certified, AllocError>
     requires { fault ≡ UniverseFault.ExprLimit → IsTooLarge script.now }
-    ensures { IfOk result (IsSpared (options_from options) script.now.text) }
+    ensures { IfOk result (λ c. (o : _) → IsSpared o script.now.text c) }
 {
-    let lines = unbuilt_line(alloc, script, options, fault)?;
+    let lines = unbuilt_line(alloc, script, fault)?;
     Ok(Certified {
         status: Status::Limit,
         lines,
@@ -238,21 +237,15 @@ fn certify_script<F: Folder, G: Gate, R: Threads + Wait + Sync>(
             cert,
             gate,
         ),
-        Err(fault) => certify_unbuilt(alloc, script, options, fault),
+        Err(fault) => certify_unbuilt(alloc, script, fault),
     }
 }
 
 // What comes of a text that gives no script: nothing is written. `Err` only where memory runs out.
-fn certify_unread(
-    alloc: Global,
-    text: &[u8],
-    options: Options,
-    stop: ParseStop,
-) -> Result<Certified, AllocError>
+fn certify_unread(alloc: Global, text: &[u8], stop: ParseStop) -> Result<Certified, AllocError>
     requires { (r : Refusal) → stop ≡ ParseStop.Refused r → IsRefused text.now r }
-    ensures { IfOk result (IsSpared (options_from options) text.now) }
+    ensures { IfOk result (λ c. (o : _) → IsSpared o text.now c) }
 {
-    let _ = options;
     let lines = refused_line(alloc, text, stop)?;
     Ok(Certified {
         status: Status::Script,
@@ -285,6 +278,6 @@ pub fn certify_text<F: Folder, G: Gate, R: Threads + Wait + Sync>(
 {
     match parse(alloc, text) {
         Ok(script) => certify_script(rt, alloc, &script, options, folder, cert, gate),
-        Err(stop) => certify_unread(alloc, text, options, stop),
+        Err(stop) => certify_unread(alloc, text, stop),
     }
 }

@@ -1,7 +1,5 @@
 // The status and the lines for a text.
 ghost use Rattle.std.specs.Prelude.{◌≡◌, IfOk};
-ghost use Rattle.script_judge.specs.declared.refusal.Refusal.{Refusal};
-ghost use Rattle.script_grammar.specs.Spells.{IsRefused};
 ghost use Rattle.report.specs.Proved as spec;
 ghost use Rattle.script_answers.specs.Answers.{AreAllowed, IsFound, ProvePrints, options_from};
 
@@ -12,7 +10,7 @@ use facts::HintMark;
 use fx_edge::Gate;
 use goals::Line;
 use report::proved::answer_text;
-use script_grammar::{ParseStop, Script, parse};
+use script_grammar::{Script, parse};
 use script_texts::refused_line;
 use std::alloc::{AllocError, Global};
 use std::sync::Wait;
@@ -40,17 +38,16 @@ pub fn proved_lines(
     )
 }
 
-// The status and the lines for what was found of the script. `Err` only where memory runs out.
+// The status and the lines for what was found of the script under some options. `Err` only where
+// memory runs out.
 fn lines_for(
     alloc: Global,
     script: &Script<'_>,
-    options: Options,
     found: Found,
 ) -> Result<(Status, Vec<u8>), AllocError>
-    requires { IsFound (options_from options) script.now found }
-    ensures { IfOk result (λ r. ProvePrints (options_from options) script.now.text r.0 r.1.items) }
+    ensures { IfOk result (λ r.
+        (o : _) → IsFound o script.now found → ProvePrints o script.now.text r.0 r.1.items) }
 {
-    let _ = options;
     match found {
         Found::Stopped(status, lines) => Ok((status, lines)),
         Found::Proved(_, shown) => {
@@ -59,21 +56,6 @@ fn lines_for(
             Ok((Status::Answered, lines))
         }
     }
-}
-
-// The status and the line for a text that gives no script.
-fn unread(
-    alloc: Global,
-    text: &[u8],
-    options: Options,
-    stop: ParseStop,
-) -> Result<(Status, Vec<u8>), AllocError>
-    requires { (r : Refusal) → stop ≡ ParseStop.Refused r → IsRefused text.now r }
-    ensures { IfOk result (λ r. ProvePrints (options_from options) text.now r.0 r.1.items) }
-{
-    let _ = options;
-    let line = refused_line(alloc, text, stop)?;
-    Ok((Status::Script, line))
 }
 
 // What is answered to a script. Who calls it has the script, and does nothing else with it: a
@@ -89,7 +71,7 @@ fn script_answer<G: Gate, R: Threads + Wait + Sync>(
     ensures { IfOk result (λ r. ProvePrints (options_from options) script.now.text r.0 r.1.items) }
 {
     let found = prove_script(rt, alloc, script, options, gate)?;
-    lines_for(alloc, script, options, found)
+    lines_for(alloc, script, found)
 }
 
 // The same by this thread alone.
@@ -102,7 +84,7 @@ fn script_answer_alone(
     ensures { IfOk result (λ r. ProvePrints (options_from options) script.now.text r.0 r.1.items) }
 {
     let found = prove_script_alone(alloc, script, options)?;
-    lines_for(alloc, script, options, found)
+    lines_for(alloc, script, found)
 }
 
 /// What is answered to a text under the options: the status and all lines. `Err` only where memory
@@ -119,7 +101,7 @@ pub fn answer<G: Gate, R: Threads + Wait + Sync>(
 {
     match parse(alloc, text) {
         Ok(script) => script_answer(rt, alloc, &script, options, gate),
-        Err(stop) => unread(alloc, text, options, stop),
+        Err(stop) => Ok((Status::Script, refused_line(alloc, text, stop)?)),
     }
 }
 
@@ -134,6 +116,6 @@ pub fn answer_alone(
 {
     match parse(alloc, text) {
         Ok(script) => script_answer_alone(alloc, &script, options),
-        Err(stop) => unread(alloc, text, options, stop),
+        Err(stop) => Ok((Status::Script, refused_line(alloc, text, stop)?)),
     }
 }

@@ -1,5 +1,5 @@
 // What is found of a script.
-ghost use Rattle.std.specs.Prelude.{◌≡◌, ◌<◌, [], List, Some, IfOk, length, slice_get};
+ghost use Rattle.std.specs.Prelude.{◌≡◌, ◌<◌, ℕ, [], List, Some, IfOk, length, slice_get};
 ghost use Rattle.script_claims.specs.declared.claim.Claim.{Claim};
 ghost use Rattle.script_grammar.specs.Cases.{cases_of};
 ghost use Rattle.universe.specs.Universes.{IsUniverse, IsTooLarge};
@@ -41,17 +41,15 @@ fn open_line(
     alloc: Global,
     script: &Script<'_>,
     cases: &[Case],
-    depth: u8,
     leaf: OpenLeaf,
 ) -> Result<Vec<u8>, AllocError>
-    requires cases { AreCases script.now depth (cases_of script.now) cases.now }
-    requires case { leaf.case < length (cases_of script.now) }
+    requires { leaf.case < length cases.now }
     ensures { IfOk result (λ line.
-        (claims : List Claim) × (slice_get (cases_of script.now) leaf.case ≡ Some claims)
+        (depth : ℕ) → AreCases script.now depth (cases_of script.now) cases.now
+        → (claims : List Claim) × (slice_get (cases_of script.now) leaf.case ≡ Some claims)
         × (line.items ≡ spec.unproved_text script.now (plan_of script.now claims depth)
         (length (cases_of script.now)) leaf.case leaf.path leaf.goal)) }
 {
-    let _ = depth;
     let number = usize::from(leaf.case);
     let case = &cases[number];
     unproved_text(
@@ -88,7 +86,7 @@ fn found_of(
             Ok(Found::Stopped(Status::Limit, boxes_text(alloc, options.boxes)?))
         }
         CaseOutcome::Unproved { leaf, .. } => {
-            let text = open_line(alloc, script, cases, options.depth, leaf)?;
+            let text = open_line(alloc, script, cases, leaf)?;
             Ok(Found::Stopped(Status::Unproved, text))
         }
         CaseOutcome::Leaves { boxes, leaves } => {
@@ -193,19 +191,17 @@ fn prove_planned_alone(
     prove_over_alone(alloc, script, universe, &cases, options)
 }
 
-/// The line of a script that has no universe. `Err` only where memory runs out.
+/// The line of a script that has no universe, under any options. `Err` only where memory runs out.
 pub fn unbuilt_line(
     alloc: Global,
     script: &Script<'_>,
-    options: Options,
     fault: UniverseFault,
 ) -> Result<Vec<u8>, AllocError>
     requires { fault ≡ UniverseFault.ExprLimit → IsTooLarge script.now }
     ensures { IfOk result (λ line.
-        ProvePrints (options_from options) script.now.text Status.Limit line.items) }
+        (o : _) → ProvePrints o script.now.text Status.Limit line.items) }
 {
     script.laws();
-    let _ = options;
     match fault {
         UniverseFault::ExprLimit => expressions_text().to_vec(alloc),
         UniverseFault::OutOfMemory => Err(AllocError),
@@ -213,16 +209,11 @@ pub fn unbuilt_line(
 }
 
 // What is found of such a script.
-fn unbuilt(
-    alloc: Global,
-    script: &Script<'_>,
-    options: Options,
-    fault: UniverseFault,
-) -> Result<Found, AllocError>
+fn unbuilt(alloc: Global, script: &Script<'_>, fault: UniverseFault) -> Result<Found, AllocError>
     requires { fault ≡ UniverseFault.ExprLimit → IsTooLarge script.now }
-    ensures { IfOk result (IsFound (options_from options) script.now) }
+    ensures { IfOk result (λ found. (o : _) → IsFound o script.now found) }
 {
-    let line = unbuilt_line(alloc, script, options, fault)?;
+    let line = unbuilt_line(alloc, script, fault)?;
     Ok(Found::Stopped(Status::Limit, line))
 }
 
@@ -240,7 +231,7 @@ pub fn prove_script<G: Gate, R: Threads + Wait + Sync>(
 {
     match build(alloc, script) {
         Ok(mut universe) => prove_planned(rt, alloc, script, &mut universe, options, gate),
-        Err(fault) => unbuilt(alloc, script, options, fault),
+        Err(fault) => unbuilt(alloc, script, fault),
     }
 }
 
@@ -255,6 +246,6 @@ pub fn prove_script_alone(
 {
     match build(alloc, script) {
         Ok(mut universe) => prove_planned_alone(alloc, script, &mut universe, options),
-        Err(fault) => unbuilt(alloc, script, options, fault),
+        Err(fault) => unbuilt(alloc, script, fault),
     }
 }

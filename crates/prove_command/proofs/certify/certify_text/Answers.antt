@@ -2,6 +2,7 @@ use Rattle.std.proofs.Common.{Err, ap, subst}
 use Rattle.std.specs.Prelude.{List, ℕ, IfOk}
 use Rattle.script_grammar.specs.Spells.{View}
 use Rattle.saturate.proofs.Answered.{ok_map}
+use Rattle.settler.specs.Answers.{Options}
 use Rattle.script_answers.specs.Answers.{options_from}
 use Rattle.prove_command.specs.Certified.{IsCertified, name_of}
 use Rattle.prove_command.proofs.Left.{spared_made, spared_cause}
@@ -20,12 +21,14 @@ returns-in-Ok-clause-made g c =
 
 pub returns-in-Err-clause-made : goal.returns-in-Err-clause-made
 returns-in-Err-clause-made g c =
+    let o : Options = options_from c.args.options in
     ok_map c.certify_unread.result c.certify_unread.ensures
-    (spared_made (options_from c.args.options) c.args.text.now (name_of c.args.cert)
-    (g.F.Folder.told c.args.folder.now))
+    (λ d spared. spared_made o c.args.text.now (name_of c.args.cert)
+    (g.F.Folder.told c.args.folder.now) d (spared o))
 
 pub returns-in-Err-clause-cause : goal.returns-in-Err-clause-cause
 returns-in-Err-clause-cause g c =
+    let o : Options = options_from c.args.options in
     ok_map c.certify_unread.result c.certify_unread.ensures
-    (spared_cause (options_from c.args.options) c.args.text.now
-    (g.F.Folder.write_faults c.args.folder.now))
+    (λ d spared. spared_cause o c.args.text.now
+    (g.F.Folder.write_faults c.args.folder.now) d (spared o))

@@ -3,8 +3,8 @@ use Rattle.script_grammar.specs.Spells.{View}
 use Rattle.script_answers.specs.Answers.{ProvePrints, options_from}
 use Rattle.script_answers.proofs.answers.answer_alone.Goals as goal
 
-pub unread-requires : goal.unread-requires
-unread-requires c = λ r e. c.in-Err.ensures.refused r (ap Err e)
+pub refused_line-requires : goal.refused_line-requires
+refused_line-requires c = λ r e. c.in-Err.ensures.refused r (ap Err e)
 
 pub returns-in-Ok : goal.returns-in-Ok
 returns-in-Ok c =
