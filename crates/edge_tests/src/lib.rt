@@ -2,6 +2,8 @@
 #![tactic(auto)]
 
 #[cfg(test)]
+mod equals;
+#[cfg(test)]
 mod of_box_deques;
 #[cfg(test)]
 mod of_command_line;

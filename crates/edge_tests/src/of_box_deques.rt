@@ -1,6 +1,7 @@
 //! Lanes of three places, each with one hand.
 ghost use Rattle.std.specs.Prelude.{◌≡◌, None};
 
+use crate::equals::{equal, holds};
 use box_deques::{Naming, Task, pool};
 use fx_edge::Path;
 use std::alloc::{AllocError, Global};
@@ -69,8 +70,8 @@ pub(crate) fn last_number(path: Path) -> u8 {
 #[test]
 fn the_fourth_push_comes_back(rt: HostRuntime) -> Result<(), Fail> {
     let (back, popped) = pushes_and_pops::<Brand>(rt.alloc())?;
-    assert_eq!(rt; back, [0, 0, 0, 4]);
-    assert_eq!(rt; popped, [1, 2, 3, 0]);
+    equal(&rt, "back", back, [0, 0, 0, 4]);
+    equal(&rt, "popped", popped, [1, 2, 3, 0]);
     Ok(())
 }
 
@@ -86,6 +87,6 @@ fn first_pop<Q: Naming<u8>>(alloc: Global) -> Result<bool, AllocError>
 
 #[test]
 fn a_new_lane_has_no_task(rt: HostRuntime) -> Result<(), Fail> {
-    assert!(rt; !first_pop::<Brand>(rt.alloc())?);
+    holds(&rt, "no task", !first_pop::<Brand>(rt.alloc())?);
     Ok(())
 }

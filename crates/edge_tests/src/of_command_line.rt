@@ -12,7 +12,7 @@ use std::test::Fail;
 type Numbers = (&'static str, u8, u8, u32, u8);
 
 // Words after `prove`, and what they ask for, if it is anything.
-const ROWS: [(&[&str], Option<Numbers>); 39] = [
+const ROWS: &[(&[&str], Option<Numbers>)] = &[
     (&["a"], Some(("a", 20, 16, 4096, 4))),
     (&["-"], Some(("-", 20, 16, 4096, 4))),
     (&["a b"], Some(("a b", 20, 16, 4096, 4))),
@@ -81,7 +81,7 @@ const ROWS: [(&[&str], Option<Numbers>); 39] = [
 
 // Words after `prove`, and the names of the script and the certificate that they ask for, if they
 // do.
-const CERTS: [(&[&str], Option<(&str, Option<&str>)>); 26] = [
+const CERTS: &[(&[&str], Option<(&str, Option<&str>)>)] = &[
     (&["a"], Some(("a", None))),
     // in both forms and anywhere among the names
     (&["a", "--cert", "b"], Some(("a", Some("b")))),
@@ -121,7 +121,7 @@ const CERTS: [(&[&str], Option<(&str, Option<&str>)>); 26] = [
 ];
 
 // Words after `gen`, and the degree that they ask for, if they do.
-const DEGREES: [(&[&str], Option<u8>); 18] = [
+const DEGREES: &[(&[&str], Option<u8>)] = &[
     (&["1"], Some(1)),
     (&["12"], Some(12)),
     (&["--", "3"], Some(3)),
@@ -143,7 +143,7 @@ const DEGREES: [(&[&str], Option<u8>); 18] = [
 ];
 
 // Words after a command of two names, and the names that they ask for, if they do.
-const NAMES: [(&[&str], Option<(&str, &str)>); 14] = [
+const NAMES: &[(&[&str], Option<(&str, &str)>)] = &[
     (&["a", "b"], Some(("a", "b"))),
     (&["b", "a"], Some(("b", "a"))),
     (&["-", "a"], Some(("-", "a"))),
@@ -162,7 +162,7 @@ const NAMES: [(&[&str], Option<(&str, &str)>); 14] = [
 
 // Words after `trim`, and the names of the script, the certificate and the new one that they ask
 // for, if they do.
-const TRIMS: [(&[&str], Option<(&str, &str, &str)>); 13] = [
+const TRIMS: &[(&[&str], Option<(&str, &str, &str)>)] = &[
     (&["a", "b", "c"], Some(("a", "b", "c"))),
     (&["c", "a", "b"], Some(("c", "a", "b"))),
     (&["a", "b", "--", "-c"], Some(("a", "b", "-c"))),
@@ -183,7 +183,7 @@ const TRIMS: [(&[&str], Option<(&str, &str, &str)>); 13] = [
 ];
 
 // Words after `batch`, and what they ask for, if it is anything.
-const BATCHES: [(&[&str], Option<Numbers>); 15] = [
+const BATCHES: &[(&[&str], Option<Numbers>)] = &[
     (&["a"], Some(("a", 20, 16, 256, 4))),
     (&["--", "-a"], Some(("-a", 20, 16, 256, 4))),
     (&["--boxes", "512", "a"], Some(("a", 20, 16, 512, 4))),
@@ -237,24 +237,44 @@ fn is_wanted<T: Debug + PartialEq + Drop>(
     }
 }
 
+// What `prove` reads of the words.
+fn prove_is(
+    rt: &(impl Abort + AllocGlobal),
+    line: &[&str],
+    wanted: Option<Numbers>,
+) -> Result<(), Fail> {
+    let words = words_of(rt.alloc(), line)?;
+    let found = read_prove(rt.alloc(), &words).map(|r| (
+        r.script, r.rounds, r.depth, r.boxes, r.workers,
+    ));
+    is_wanted(rt, line, found, wanted);
+    Ok(())
+}
+
 #[test]
 fn words_are_read(rt: HostRuntime) -> Result<(), Fail> {
     for (line, wanted) in ROWS {
-        let words = words_of(rt.alloc(), line)?;
-        let found = read_prove(rt.alloc(), &words).map(|r| (
-            r.script, r.rounds, r.depth, r.boxes, r.workers,
-        ));
-        is_wanted(&rt, line, found, wanted);
+        prove_is(&rt, *line, *wanted)?;
     }
+    Ok(())
+}
+
+// The names that `prove` reads of the words.
+fn cert_is(
+    rt: &(impl Abort + AllocGlobal),
+    line: &[&str],
+    wanted: Option<(&str, Option<&str>)>,
+) -> Result<(), Fail> {
+    let words = words_of(rt.alloc(), line)?;
+    let found = read_prove(rt.alloc(), &words).map(|r| (r.script, r.cert));
+    is_wanted(rt, line, found, wanted);
     Ok(())
 }
 
 #[test]
 fn certs_are_read(rt: HostRuntime) -> Result<(), Fail> {
     for (line, wanted) in CERTS {
-        let words = words_of(rt.alloc(), line)?;
-        let found = read_prove(rt.alloc(), &words).map(|r| (r.script, r.cert));
-        is_wanted(&rt, line, found, wanted);
+        cert_is(&rt, *line, *wanted)?;
     }
     Ok(())
 }
@@ -262,46 +282,76 @@ fn certs_are_read(rt: HostRuntime) -> Result<(), Fail> {
 #[test]
 fn degrees_are_read(rt: HostRuntime) -> Result<(), Fail> {
     for (line, wanted) in DEGREES {
-        let words = words_of(rt.alloc(), line)?;
-        is_wanted(&rt, line, read_gen(rt.alloc(), &words), wanted);
+        let words = words_of(rt.alloc(), *line)?;
+        is_wanted(&rt, *line, read_gen(rt.alloc(), &words), *wanted);
     }
     Ok(())
+}
+
+// What the commands of two names read of the words.
+fn names_are(
+    rt: &(impl Abort + AllocGlobal),
+    line: &[&str],
+    words: &[String],
+    wanted: Option<(&str, &str)>,
+) {
+    let checked = read_check(rt.alloc(), words).map(|r| (r.script, r.cert));
+    is_wanted(rt, line, checked, wanted);
+    let upgraded = read_upgrade(rt.alloc(), words).map(|r| (r.cert, r.new));
+    is_wanted(rt, line, upgraded, wanted);
+    let fixed = read_fix(rt.alloc(), words).map(|r| (r.program, r.script));
+    is_wanted(rt, line, fixed, wanted);
+    let at = read_at(rt.alloc(), words).map(|r| (r.script, r.point));
+    is_wanted(rt, line, at, wanted);
 }
 
 #[test]
 fn names_are_read(rt: HostRuntime) -> Result<(), Fail> {
     for (line, wanted) in NAMES {
-        let words = words_of(rt.alloc(), line)?;
-        let checked = read_check(rt.alloc(), &words).map(|r| (r.script, r.cert));
-        is_wanted(&rt, line, checked, wanted);
-        let upgraded = read_upgrade(rt.alloc(), &words).map(|r| (r.cert, r.new));
-        is_wanted(&rt, line, upgraded, wanted);
-        let fixed = read_fix(rt.alloc(), &words).map(|r| (r.program, r.script));
-        is_wanted(&rt, line, fixed, wanted);
-        let at = read_at(rt.alloc(), &words).map(|r| (r.script, r.point));
-        is_wanted(&rt, line, at, wanted);
+        let words = words_of(rt.alloc(), *line)?;
+        names_are(&rt, *line, &words, *wanted);
     }
+    Ok(())
+}
+
+// The names that `trim` reads of the words.
+fn trim_is(
+    rt: &(impl Abort + AllocGlobal),
+    line: &[&str],
+    wanted: Option<(&str, &str, &str)>,
+) -> Result<(), Fail> {
+    let words = words_of(rt.alloc(), line)?;
+    let found = read_trim(rt.alloc(), &words).map(|r| (r.script, r.cert, r.new));
+    is_wanted(rt, line, found, wanted);
     Ok(())
 }
 
 #[test]
 fn three_names_are_read(rt: HostRuntime) -> Result<(), Fail> {
     for (line, wanted) in TRIMS {
-        let words = words_of(rt.alloc(), line)?;
-        let found = read_trim(rt.alloc(), &words).map(|r| (r.script, r.cert, r.new));
-        is_wanted(&rt, line, found, wanted);
+        trim_is(&rt, *line, *wanted)?;
     }
+    Ok(())
+}
+
+// What `batch` reads of the words.
+fn batch_is(
+    rt: &(impl Abort + AllocGlobal),
+    line: &[&str],
+    wanted: Option<Numbers>,
+) -> Result<(), Fail> {
+    let words = words_of(rt.alloc(), line)?;
+    let found = read_batch(rt.alloc(), &words).map(|r| (
+        r.list, r.rounds, r.depth, r.boxes, r.workers,
+    ));
+    is_wanted(rt, line, found, wanted);
     Ok(())
 }
 
 #[test]
 fn batches_are_read(rt: HostRuntime) -> Result<(), Fail> {
     for (line, wanted) in BATCHES {
-        let words = words_of(rt.alloc(), line)?;
-        let found = read_batch(rt.alloc(), &words).map(|r| (
-            r.list, r.rounds, r.depth, r.boxes, r.workers,
-        ));
-        is_wanted(&rt, line, found, wanted);
+        batch_is(&rt, *line, *wanted)?;
     }
     Ok(())
 }

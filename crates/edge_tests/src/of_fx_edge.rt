@@ -1,5 +1,6 @@
 //! What no clause says: that memory is found, that a disk keeps what was written, and what comes
 //! after a real error.
+use crate::equals::{all_equal, equal};
 use fx_edge::{
     DiskFolder, Failed, Folder, MemFolder, MemSink, Sink, StdSink, SureFolder, SureSink,
 };
@@ -20,20 +21,26 @@ fn two_files(alloc: Global) -> Result<Vec<(String, Vec<u8>)>, AllocError> {
 fn a_sure_folder_fails_for_two_causes(rt: HostRuntime) -> Result<(), Fail> {
     let mut folder = SureFolder::new(rt.alloc(), two_files(rt.alloc())?, 2)?;
     let mut buf = [0u8; 4];
-    assert_eq!(rt; folder.read("a", 1, &mut buf), Ok(2));
-    assert_eq!(rt; &buf, b"bc\0\0");
-    assert_eq!(rt; folder.read("c", 0, &mut buf), Ok(0), "an absent name");
-    assert_eq!(rt; folder.append("c", b""), Err(Failed), "an absent name");
-    assert_eq!(rt; folder.append("b", b"xyz"), Ok(2), "what fits");
-    assert_eq!(rt; folder.append("b", b"z"), Err(Failed), "nothing fits");
-    assert_eq!(rt; folder.append("b", b""), Ok(0), "an empty piece");
-    assert_eq!(rt; folder.fresh("a"), Ok(()));
-    assert_eq!(rt;
+    equal(&rt, "read", folder.read("a", 1, &mut buf), Ok(2));
+    all_equal(&rt, "what was read", &buf, b"bc\0\0");
+    equal(&rt, "an absent name", folder.read("c", 0, &mut buf), Ok(0));
+    equal(&rt, "an absent name", folder.append("c", b""), Err(Failed));
+    equal(&rt, "what fits", folder.append("b", b"xyz"), Ok(2));
+    equal(&rt, "nothing fits", folder.append("b", b"z"), Err(Failed));
+    equal(&rt, "an empty piece", folder.append("b", b""), Ok(0));
+    equal(&rt, "made new", folder.fresh("a"), Ok(()));
+    equal(
+        &rt,
+        "the room of the first bytes",
         folder.append("a", b"wxyz"),
         Ok(3),
-        "the room of the first bytes"
     );
-    assert_eq!(rt; folder.bytes("a"), Some(b"wxy".as_slice()));
+    equal(
+        &rt,
+        "what is there",
+        folder.bytes("a"),
+        Some(b"wxy".as_slice()),
+    );
     Ok(())
 }
 
@@ -42,32 +49,38 @@ fn the_calls_of_a_folder_are_numbered_together(rt: HostRuntime) -> Result<(), Fa
     let failing = [2, 4].to_vec(rt.alloc())?;
     let mut folder = MemFolder::new(rt.alloc(), two_files(rt.alloc())?, failing, 9, 2)?;
     let mut buf = [0u8; 4];
-    assert_eq!(rt; folder.read("a", 0, &mut buf), Ok(2), "call 1");
-    assert_eq!(rt; folder.fresh("a"), Err(Failed), "call 2");
-    assert_eq!(rt; folder.append("b", b"xyz"), Ok(2), "call 3");
-    assert_eq!(rt; folder.read("a", 0, &mut buf), Err(Failed), "call 4");
-    assert_eq!(rt;
+    equal(&rt, "call 1", folder.read("a", 0, &mut buf), Ok(2));
+    equal(&rt, "call 2", folder.fresh("a"), Err(Failed));
+    equal(&rt, "call 3", folder.append("b", b"xyz"), Ok(2));
+    equal(&rt, "call 4", folder.read("a", 0, &mut buf), Err(Failed));
+    equal(
+        &rt,
+        "an absent name",
         folder.read("c", 0, &mut buf),
         Err(Failed),
-        "an absent name"
     );
-    assert_eq!(rt; folder.bytes("a"), Some(b"abc".as_slice()));
+    equal(
+        &rt,
+        "what is there",
+        folder.bytes("a"),
+        Some(b"abc".as_slice()),
+    );
     Ok(())
 }
 
 #[test]
 fn sinks_take_what_fits(rt: HostRuntime) -> Result<(), Fail> {
     let mut sure = SureSink::new(rt.alloc(), 4)?;
-    assert_eq!(rt; sure.put(b"abc"), Ok(3));
-    assert_eq!(rt; sure.put(b"de"), Ok(1));
-    assert_eq!(rt; sure.put(b"e"), Err(Failed));
-    assert_eq!(rt; sure.bytes(), b"abcd".as_slice());
+    equal(&rt, "put", sure.put(b"abc"), Ok(3));
+    equal(&rt, "put", sure.put(b"de"), Ok(1));
+    equal(&rt, "put", sure.put(b"e"), Err(Failed));
+    all_equal(&rt, "what is there", sure.bytes(), b"abcd".as_slice());
     let mut sink = MemSink::new(rt.alloc(), [2].to_vec(rt.alloc())?, 4, 3)?;
-    assert_eq!(rt; sink.put(b"abcd"), Ok(3));
-    assert_eq!(rt; sink.put(b"d"), Err(Failed), "call 2");
-    assert_eq!(rt; sink.put(b"de"), Ok(1));
-    assert_eq!(rt; sink.put(b"e"), Err(Failed), "nothing fits");
-    assert_eq!(rt; sink.bytes(), b"abcd".as_slice());
+    equal(&rt, "put", sink.put(b"abcd"), Ok(3));
+    equal(&rt, "call 2", sink.put(b"d"), Err(Failed));
+    equal(&rt, "put", sink.put(b"de"), Ok(1));
+    equal(&rt, "nothing fits", sink.put(b"e"), Err(Failed));
+    all_equal(&rt, "what is there", sink.bytes(), b"abcd".as_slice());
     Ok(())
 }
 
@@ -78,23 +91,29 @@ fn a_disk_keeps_what_is_written(rt: HostRuntime) -> Result<(), Fail> {
     let name = path.as_str();
     let mut folder = DiskFolder::new(&rt);
     let mut buf = [0u8; 4];
-    assert_eq!(rt;
+    equal(
+        &rt,
+        "nothing was made yet",
         folder.append(name, b"abc"),
         Err(Failed),
-        "nothing was made yet"
     );
-    assert_eq!(rt; folder.fresh(name), Ok(()));
-    assert_eq!(rt; folder.append(name, b"abc"), Ok(3));
-    assert_eq!(rt; folder.append(name, b"de"), Ok(2));
-    assert_eq!(rt; folder.read(name, 2, &mut buf), Ok(3));
-    assert_eq!(rt; &buf, b"cde\0");
-    assert_eq!(rt; folder.read(name, 9, &mut buf), Ok(0), "past the end");
-    assert_eq!(rt; folder.fresh(name), Err(Failed), "it was read");
-    assert_eq!(rt; folder.read(name, 1, &mut buf), Ok(4), "and kept");
-    assert_eq!(rt; DiskFolder::new(&rt).fresh(name), Ok(()));
-    assert_eq!(rt; folder.read(name, 0, &mut buf), Ok(0), "made new");
+    equal(&rt, "made new", folder.fresh(name), Ok(()));
+    equal(&rt, "append", folder.append(name, b"abc"), Ok(3));
+    equal(&rt, "append", folder.append(name, b"de"), Ok(2));
+    equal(&rt, "read", folder.read(name, 2, &mut buf), Ok(3));
+    all_equal(&rt, "what was read", &buf, b"cde\0");
+    equal(&rt, "past the end", folder.read(name, 9, &mut buf), Ok(0));
+    equal(&rt, "it was read", folder.fresh(name), Err(Failed));
+    equal(&rt, "and kept", folder.read(name, 1, &mut buf), Ok(4));
+    equal(
+        &rt,
+        "another folder",
+        DiskFolder::new(&rt).fresh(name),
+        Ok(()),
+    );
+    equal(&rt, "made new", folder.read(name, 0, &mut buf), Ok(0));
     fs::remove_file(&rt, name)?;
-    assert_eq!(rt; folder.read(name, 0, &mut buf), Err(Failed));
+    equal(&rt, "read", folder.read(name, 0, &mut buf), Err(Failed));
     Ok(())
 }
 
@@ -132,10 +151,15 @@ fn a_broken_writer_fails_the_put(rt: HostRuntime) -> Result<(), Fail> {
         calls: 0,
     };
     let mut sink = StdSink::new(&mut writer);
-    assert_eq!(rt; sink.put(b"abcdef"), Ok(2));
-    assert_eq!(rt; sink.put(b"cdef"), Ok(2), "after an interruption");
-    assert_eq!(rt; sink.put(b"ef"), Err(Failed), "broken");
-    assert_eq!(rt; sink.put(b""), Ok(0), "an empty piece");
-    assert_eq!(rt; writer.taken.as_slice(), b"abcd".as_slice());
+    equal(&rt, "put", sink.put(b"abcdef"), Ok(2));
+    equal(&rt, "after an interruption", sink.put(b"cdef"), Ok(2));
+    equal(&rt, "broken", sink.put(b"ef"), Err(Failed));
+    equal(&rt, "an empty piece", sink.put(b""), Ok(0));
+    all_equal(
+        &rt,
+        "what was taken",
+        writer.taken.as_slice(),
+        b"abcd".as_slice(),
+    );
     Ok(())
 }

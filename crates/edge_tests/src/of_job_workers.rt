@@ -1,6 +1,7 @@
 //! Jobs that answer at once, by several workers.
 ghost use Rattle.std.specs.Prelude.{◌≡◌, ◌≤◌, ◌+◌};
 
+use crate::equals::equal;
 use fx_edge::{Gate, OpenGate, Path};
 use job_workers::{Job, run_jobs};
 use std::alloc::{AllocError, Global};
@@ -122,8 +123,13 @@ fn the_longest_is_begun_first(rt: HostRuntime) -> Result<(), Fail> {
         digits: AtomicU64::new(0),
     };
     let found = answer(&rt, rt.alloc(), &gate, NONE, 7, 1)?;
-    assert_eq!(rt; found, (true, 7));
-    assert_eq!(rt; gate.digits.load(Ordering::SeqCst), 2514036);
+    equal(&rt, "all jobs", found, (true, 7));
+    equal(
+        &rt,
+        "the order",
+        gate.digits.load(Ordering::SeqCst),
+        2514036,
+    );
     Ok(())
 }
 
@@ -173,10 +179,10 @@ fn two_jobs_are_done_at_once(rt: HostRuntime) -> Result<(), Fail> {
         met: AtomicU64::new(0),
     };
     let found = answer(&rt, rt.alloc(), &gate, NONE, 8, 4)?;
-    assert_eq!(rt; found, (true, 8));
-    assert_eq!(rt; gate.entered.load(Ordering::SeqCst), 8);
-    assert_eq!(rt; gate.left.load(Ordering::SeqCst), 8);
-    assert_eq!(rt; gate.seen.load(Ordering::SeqCst), 255);
-    assert_eq!(rt; gate.met.load(Ordering::SeqCst), 1);
+    equal(&rt, "all jobs", found, (true, 8));
+    equal(&rt, "entered", gate.entered.load(Ordering::SeqCst), 8);
+    equal(&rt, "left", gate.left.load(Ordering::SeqCst), 8);
+    equal(&rt, "seen", gate.seen.load(Ordering::SeqCst), 255);
+    equal(&rt, "met", gate.met.load(Ordering::SeqCst), 1);
     Ok(())
 }

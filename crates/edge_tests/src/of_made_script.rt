@@ -1,9 +1,11 @@
 //! Texts written out by hand.
 use made_script::made_script;
+use std::alloc::Global;
+use std::process::Abort;
 use std::test::Fail;
 
 // The degree, and the text line by line.
-const ROWS: [(u8, [&str; 5]); 3] = [
+const ROWS: &[(u8, [&str; 5])] = &[
     (
         1,
         [
@@ -36,15 +38,26 @@ const ROWS: [(u8, [&str; 5]); 3] = [
     ),
 ];
 
+// The lines, one behind the other.
+fn joined(alloc: Global, lines: &[&str]) -> Result<Vec<u8>, Fail> {
+    let mut whole = Vec::new(alloc);
+    for line in lines {
+        whole.extend_from_slice(line.as_bytes())?;
+    }
+    Ok(whole)
+}
+
+fn is_made(rt: &impl Abort, alloc: Global, n: u8, lines: &[&str]) -> Result<(), Fail> {
+    let whole = joined(alloc, lines)?;
+    let text = made_script(alloc, n)?;
+    assert_eq!(rt; text.as_slice(), whole.as_slice(), "{n}");
+    Ok(())
+}
+
 #[test]
 fn each_number_has_its_made_script(rt: HostRuntime) -> Result<(), Fail> {
     for (n, lines) in ROWS {
-        let text = made_script(rt.alloc(), n)?;
-        let mut whole = Vec::new(rt.alloc());
-        for line in lines {
-            whole.extend_from_slice(line.as_bytes())?;
-        }
-        assert_eq!(rt; text.as_slice(), whole.as_slice(), "{n}");
+        is_made(&rt, rt.alloc(), *n, lines)?;
     }
     Ok(())
 }

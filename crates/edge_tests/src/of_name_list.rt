@@ -2,6 +2,7 @@
 
 use name_list::{ListStop, read_list};
 use std::alloc::{AllocError, Global};
+use std::process::Abort;
 use std::test::Fail;
 
 // What comes of a list of these tests, of which none is long.
@@ -28,7 +29,7 @@ fn shown(alloc: Global, text: &[u8]) -> Result<String, AllocError> {
     }
 }
 
-const ROWS: [(&[u8], &str); 15] = [
+const ROWS: &[(&[u8], &str)] = &[
     (b"a\nb\n", "|a|b"),
     (b"a\nb", "|a|b"),
     (b"a b\r\n--x\n", "|a b\r|--x"),
@@ -48,11 +49,16 @@ const ROWS: [(&[u8], &str); 15] = [
     (b"\xc3\xa4\n", "|\u{e4}"),
 ];
 
+fn is_shown(rt: &impl Abort, alloc: Global, text: &[u8], wanted: &str) -> Result<(), Fail> {
+    let found = shown(alloc, text)?;
+    assert_eq!(rt; found.as_str(), wanted);
+    Ok(())
+}
+
 #[test]
 fn each_list_has_its_names_or_its_fault(rt: HostRuntime) -> Result<(), Fail> {
     for (text, wanted) in ROWS {
-        let found = shown(rt.alloc(), text)?;
-        assert_eq!(rt; found.as_str(), wanted);
+        is_shown(&rt, rt.alloc(), *text, wanted)?;
     }
     Ok(())
 }
@@ -66,27 +72,33 @@ fn letters(alloc: Global, lines: usize) -> Result<Vec<u8>, AllocError> {
     Ok(text)
 }
 
+// The list has so many names.
+fn has_names(rt: &impl Abort, alloc: Global, text: &[u8], count: usize) -> Result<(), Fail> {
+    let Ok(names) = names_of(alloc, text) else {
+        return Err(Fail::new("the list has names"));
+    };
+    assert_eq!(rt; names.len(), count);
+    Ok(())
+}
+
 #[test]
 fn a_list_has_64_lines_at_most(rt: HostRuntime) -> Result<(), Fail> {
     let alloc = rt.alloc();
-    let most = letters(alloc, 64)?;
-    let Ok(names) = names_of(alloc, &most) else {
-        return Err(Fail::new("the list has names"));
-    };
-    assert_eq!(rt; names.len(), 64);
-    let over = letters(alloc, 65)?;
-    assert_eq!(rt; shown(alloc, &over)?.as_str(), "Limit at 128");
+    let mut most = letters(alloc, 64)?;
+    has_names(&rt, alloc, &most, 64)?;
     // A 65th line without bytes is no name, first of all.
-    let mut empty = letters(alloc, 64)?;
-    empty.push(b'\n')?;
-    assert_eq!(rt; shown(alloc, &empty)?.as_str(), "EmptyName at 128");
-    // Behind byte 2^16 nothing counts, but bytes that begin before it.
+    most.push(b'\n')?;
+    is_shown(&rt, alloc, &most, "EmptyName at 128")?;
+    let over = letters(alloc, 65)?;
+    is_shown(&rt, alloc, &over, "Limit at 128")
+}
+
+// Behind byte 2^16 nothing counts, but bytes that begin before it.
+#[test]
+fn a_list_has_65536_bytes_at_most(rt: HostRuntime) -> Result<(), Fail> {
+    let alloc = rt.alloc();
     let long = vec![in alloc; b'a'; 65537]?;
-    assert_eq!(rt; shown(alloc, &long)?.as_str(), "Limit at 65536");
+    is_shown(&rt, alloc, &long, "Limit at 65536")?;
     let room = vec![in alloc; b'a'; 65536]?;
-    let Ok(one) = names_of(alloc, &room) else {
-        return Err(Fail::new("the list has names"));
-    };
-    assert_eq!(rt; one.len(), 1);
-    Ok(())
+    has_names(&rt, alloc, &room, 1)
 }

@@ -5,6 +5,7 @@ ghost use Rattle.box_deques.specs.Seen.{AllPasses, Each, HasPass, IsReady, IsSea
 ghost use Rattle.box_deques.specs.Seen.{OwnIsEmpty};
 ghost use Rattle.box_deques.specs.Moments.{SamePasses};
 
+use crate::equals::{all_equal, equal, holds};
 use crate::of_box_deques::{Job, numbered};
 use box_deques::{Hand, Lane, LaneEnd, Naming, Thief, hands, pool};
 use fx_edge::Path;
@@ -205,12 +206,27 @@ fn path(number: u8) -> Path {
 #[test]
 fn a_shared_lane_loses_nothing(rt: HostRuntime) -> Result<(), Fail> {
     let (end, pushed, stolen) = shared::<Brand, _>(&rt, rt.alloc(), true)?;
-    assert_eq!(rt; (pushed, end.ledger.pushes.as_slice().len()), (100, 100));
-    assert!(rt; is_whole(&end));
-    assert_eq!(rt; end.ledger.takes.as_slice().len(), stolen as usize);
-    assert_eq!(rt; end.left.as_slice().len(), end.ledger.left.as_slice().len());
+    equal(
+        &rt,
+        "pushed",
+        (pushed, end.ledger.pushes.as_slice().len()),
+        (100, 100),
+    );
+    holds(&rt, "the ledger", is_whole(&end));
+    equal(
+        &rt,
+        "takes",
+        end.ledger.takes.as_slice().len(),
+        stolen as usize,
+    );
+    equal(
+        &rt,
+        "left",
+        end.left.as_slice().len(),
+        end.ledger.left.as_slice().len(),
+    );
     for (worker, _) in end.ledger.takes.as_slice() {
-        assert_eq!(rt; *worker, 1);
+        equal(&rt, "the worker", *worker, 1);
     }
     Ok(())
 }
@@ -218,11 +234,11 @@ fn a_shared_lane_loses_nothing(rt: HostRuntime) -> Result<(), Fail> {
 #[test]
 fn each_take_has_its_worker_and_its_place(rt: HostRuntime) -> Result<(), Fail> {
     let (end, popped, stolen) = shared::<Brand, _>(&rt, rt.alloc(), false)?;
-    assert_eq!(rt; (popped, stolen), (1, 1));
+    equal(&rt, "popped", (popped, stolen), (1, 1));
     let takes = [(1, path(1)), (0, path(2))];
     let left = [path(3), path(4)];
-    assert_eq!(rt; end.ledger.takes.as_slice(), takes.as_slice());
-    assert_eq!(rt; end.ledger.left.as_slice(), left.as_slice());
-    assert!(rt; is_whole(&end));
+    all_equal(&rt, "takes", end.ledger.takes.as_slice(), takes.as_slice());
+    all_equal(&rt, "left", end.ledger.left.as_slice(), left.as_slice());
+    holds(&rt, "the ledger", is_whole(&end));
     Ok(())
 }

@@ -1,6 +1,7 @@
 //! Eight jobs by two workers: what no clause can tell of a run.
 ghost use Rattle.std.specs.Prelude.{◌≡◌};
 
+use crate::equals::{all_equal, equal};
 use fx_edge::{Gate, Path};
 use job_workers::{Job, run_jobs};
 use std::alloc::AllocError;
@@ -73,9 +74,14 @@ fn a_worker_takes_jobs_of_another_lane(rt: HostRuntime) -> Result<(), Fail> {
     };
     let jobs = Jobs { notes: &notes };
     let results = run_jobs(&rt, rt.alloc(), &jobs, &notes, 8, 2)?;
-    assert_eq!(rt; results.as_slice(), [0u16, 1, 2, 3, 4, 5, 6, 7].as_slice());
-    assert_eq!(rt; notes.which.load(Ordering::SeqCst), 255);
-    assert_eq!(rt; notes.met.load(Ordering::SeqCst), 1);
-    assert_eq!(rt; notes.early.load(Ordering::SeqCst), 0);
+    all_equal(
+        &rt,
+        "as_slice",
+        results.as_slice(),
+        [0u16, 1, 2, 3, 4, 5, 6, 7].as_slice(),
+    );
+    equal(&rt, "which", notes.which.load(Ordering::SeqCst), 255);
+    equal(&rt, "met", notes.met.load(Ordering::SeqCst), 1);
+    equal(&rt, "early", notes.early.load(Ordering::SeqCst), 0);
     Ok(())
 }

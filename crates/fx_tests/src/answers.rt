@@ -4,7 +4,7 @@ use crate::runs::texts_end;
 use command_runs::Status;
 use std::test::Fail;
 
-const EXPRESSIONS: [(&str, &str); 17] = [
+const EXPRESSIONS: &[(&str, &str)] = &[
     (
         "{ x in [1,2] /\\ y in [3,5] -> x * y in ? }",
         "x * y in [3, 5b1]\n",
@@ -75,10 +75,10 @@ const EXPRESSIONS: [(&str, &str); 17] = [
 
 #[test]
 fn expressions_are_enclosed(rt: HostRuntime) -> Result<(), Fail> {
-    texts_end(&rt, rt.alloc(), Status::Answered, &EXPRESSIONS)
+    texts_end(&rt, rt.alloc(), Status::Answered, EXPRESSIONS)
 }
 
-const FORMS: [(&str, &str); 12] = [
+const FORMS: &[(&str, &str)] = &[
     (
         "y = x * x; { x in [0,3] -> y - x in ? }",
         "y - x in [-3, 9]\n",
@@ -127,10 +127,10 @@ const FORMS: [(&str, &str); 12] = [
 
 #[test]
 fn forms_are_read(rt: HostRuntime) -> Result<(), Fail> {
-    texts_end(&rt, rt.alloc(), Status::Answered, &FORMS)
+    texts_end(&rt, rt.alloc(), Status::Answered, FORMS)
 }
 
-const BOUNDED: [(&str, &str); 9] = [
+const BOUNDED: &[(&str, &str)] = &[
     ("{ x >= 1 -> x >= 0.5 }", "x in [1, +inf]\n"),
     ("{ x <= 3 -> -x >= -3 }", "- x in [-3, +inf]\n"),
     ("{ x >= 1 -> y <= 2 -> y - x <= 1 }", "y - x in [-inf, 1]\n"),
@@ -164,14 +164,14 @@ const BOUNDED: [(&str, &str); 9] = [
 
 #[test]
 fn bounded_goals_are_proved(rt: HostRuntime) -> Result<(), Fail> {
-    texts_end(&rt, rt.alloc(), Status::Answered, &BOUNDED)
+    texts_end(&rt, rt.alloc(), Status::Answered, BOUNDED)
 }
 
 const FIRST: &str = "unproved: goal 1 at the whole box\n";
 
 const SECOND: &str = "unproved: goal 2 at the whole box\n";
 
-const UNPROVED: [(&str, &str); 19] = [
+const UNPROVED: &[(&str, &str)] = &[
     ("{ x in ? }", FIRST),
     // the least goal that isn't proved is named
     ("{ x in [1,2] -> x in ? /\\ y in ? /\\ z in ? }", SECOND),
@@ -207,5 +207,5 @@ const UNPROVED: [(&str, &str); 19] = [
 
 #[test]
 fn other_goals_are_unproved(rt: HostRuntime) -> Result<(), Fail> {
-    texts_end(&rt, rt.alloc(), Status::Unproved, &UNPROVED)
+    texts_end(&rt, rt.alloc(), Status::Unproved, UNPROVED)
 }

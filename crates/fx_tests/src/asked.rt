@@ -2,6 +2,7 @@
 // Numbers were worked out by hand.
 ghost use Rattle.std.specs.Prelude.{None};
 
+use crate::equals::{bytes_are, equal};
 use crate::made_files::{PRODUCT, SECOND};
 use crate::runs::words_of;
 use command_runs::Status;
@@ -94,13 +95,13 @@ fn run_is(
     let words = words_of(alloc, words)?;
     let status = fx_run(rt, alloc, &words, &mut folder, &mut out, &OpenGate);
     let (wanted, lines) = ended;
-    assert_eq!(rt; status, wanted, "{}", lines);
-    assert_eq!(rt; out.bytes(), lines.as_bytes(), "{}", lines);
+    equal(rt, lines, 0, status, wanted);
+    bytes_are(rt, lines, 0, out.bytes(), lines.as_bytes());
     let (calls, asked, made) = noted;
-    assert_eq!(rt; folder.calls, calls, "{}", lines);
-    assert_eq!(rt; folder.asked, asked, "{}", lines);
-    assert_eq!(rt; folder.made, made, "{}", lines);
-    assert_eq!(rt; folder.times, made.min(1), "{}", lines);
+    equal(rt, lines, 0, folder.calls, calls);
+    equal(rt, lines, 0, folder.asked, asked);
+    equal(rt, lines, 0, folder.made, made);
+    equal(rt, lines, 0, folder.times, made.min(1));
     Ok(())
 }
 
@@ -115,7 +116,7 @@ const CHECK: &[&str] = &["check", "a", "z"];
 // and a program's first 2^16 + 1. Of a list three bytes more may show that a character is broken
 // off, which goes before that. They are asked for 2^16 bytes at a time. So is a certificate, at
 // each place behind what was read. Another file is read by one call more, which finds its end.
-const READ: [(&[&str], &str, usize, (Status, &str), u64, u64); 17] = [
+const READ: &[(&[&str], &str, usize, (Status, &str), u64, u64)] = &[
     (&["prove", "z"], "", 1, SCRIPT, 1_048_577, 1_048_577),
     (&["prove", "z"], "", 1000, SCRIPT, 1049, 1_048_577),
     (&["prove", "z"], "", 1024, SCRIPT, 1025, 1_048_577),
@@ -184,7 +185,8 @@ const READ: [(&[&str], &str, usize, (Status, &str), u64, u64); 17] = [
 #[test]
 fn no_byte_is_asked_for_that_decides_nothing(rt: HostRuntime) -> Result<(), Fail> {
     for (words, text, most, ended, calls, asked) in READ {
-        run_is(&rt, rt.alloc(), words, text, most, ended, (calls, asked, 0))?;
+        let noted = (*calls, *asked, 0);
+        run_is(&rt, rt.alloc(), *words, text, *most, *ended, noted)?;
     }
     Ok(())
 }
@@ -198,7 +200,7 @@ const PRODUCT_LINE: &str = "x * y in [3, 5b1]\n";
 // what belongs to each box, and the end, each by one call where that moves all. Its runs have one
 // box, two cases of one box each, and a tree of 15. What the others write is short, and moves at
 // once.
-const MADE: [(&[&str], &str, usize, &str, u64, u64); 7] = [
+const MADE: &[(&[&str], &str, usize, &str, u64, u64)] = &[
     (CERT, PRODUCT, 65_536, PRODUCT_LINE, 6, 3),
     // 42 bytes to read; then 14, 44 and 3 to write
     (CERT, PRODUCT, 16, PRODUCT_LINE, 10, 5),
@@ -248,8 +250,8 @@ const MADE: [(&[&str], &str, usize, &str, u64, u64); 7] = [
 #[test]
 fn a_file_is_made_new_once(rt: HostRuntime) -> Result<(), Fail> {
     for (words, text, most, lines, calls, made) in MADE {
-        let ended = (Status::Answered, lines);
-        run_is(&rt, rt.alloc(), words, text, most, ended, (calls, 0, made))?;
+        let (ended, noted) = ((Status::Answered, *lines), (*calls, 0, *made));
+        run_is(&rt, rt.alloc(), *words, text, *most, ended, noted)?;
     }
     Ok(())
 }

@@ -1,6 +1,6 @@
 // Scripts whose hypotheses have several cases. Expected lines, and certificates, are those of a
 // plain program of the definitions.
-use crate::runs::{run_ends, sound, words_end};
+use crate::runs::{Row, check_ends, rows_end};
 use command_runs::Status;
 use std::test::Fail;
 
@@ -38,7 +38,7 @@ const FIRST_OPEN: &str = "{ x in [2,2] \\/ x in [0,1] -> x * (1 - x) in [0,0.3] 
 const HALVED_LINE: &str = "x * ( 1 - x ) in [0, 9b-5]\n";
 
 // Words, a script, and how its proof ends.
-const ROWS: [(&[&str], &str, Status, &str); 23] = [
+const ROWS: &[Row] = &[
     (PROVE, TWO, ANSWERED, "x * x in [0, 1b4]\n"),
     (
         &["prove", "a", "--boxes", "1"],
@@ -169,10 +169,7 @@ const ROWS: [(&[&str], &str, Status, &str); 23] = [
 
 #[test]
 fn cases_are_answered_together(rt: HostRuntime) -> Result<(), Fail> {
-    for (words, text, status, line) in ROWS {
-        words_end(&rt, rt.alloc(), words, text.as_bytes(), status, line)?;
-    }
-    Ok(())
+    rows_end(&rt, rt.alloc(), ROWS)
 }
 
 // The certificate of `TWO`: in each case x's range, a hypothesis, and the range of x * x by that.
@@ -202,7 +199,7 @@ const CERT_OF_ONE: [u8; 46] = [
 const REFUTED: Status = Status::Certificate;
 
 // A script, a certificate, and how its check ends.
-const CHECKS: [(&str, &[u8], Status, &str); 6] = [
+const CHECKS: &[(&str, &[u8], Status, &str)] = &[
     (TWO, &CERT, ANSWERED, "x * x in [0, 1b4]\n"),
     // a step may say less than its hypothesis
     (
@@ -231,18 +228,7 @@ const CHECKS: [(&str, &[u8], Status, &str); 6] = [
 #[test]
 fn certificates_of_cases_are_checked(rt: HostRuntime) -> Result<(), Fail> {
     for (text, cert, status, printed) in CHECKS {
-        let files = [("a", text.as_bytes()), ("c", cert)];
-        for most in [1, 4096] {
-            let outside = sound(&files, most);
-            run_ends(
-                &rt,
-                rt.alloc(),
-                &["check", "a", "c"],
-                &outside,
-                status,
-                printed,
-            )?;
-        }
+        check_ends(&rt, rt.alloc(), text, cert, &[1, 4096], *status, printed)?;
     }
     Ok(())
 }

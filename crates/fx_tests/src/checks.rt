@@ -1,9 +1,13 @@
 // Certificates that are checked: one that is accepted, another script's, damaged ones. The
 // certificate and its faults were worked out by hand.
-use crate::runs::{Outside, run_ends, run_on, sound};
+use crate::equals::equal;
+use crate::runs::{Outside, check_ends, edit_ends, edited, fronts_end, run_ends, run_on, sound};
 use command_runs::Status;
 use std::alloc::{AllocError, Global};
+use std::process::Abort;
+use std::sync::Wait;
 use std::test::Fail;
+use std::thread::Threads;
 
 const PRODUCT: &str = "{ x in [1,2] /\\ y in [3,5] -> x * y in ? }";
 
@@ -27,7 +31,7 @@ const CERT: [u8; 143] = [
 
 // A script; the certificate's bytes before a place, a piece, and its bytes from a place on; and how
 // the check of these ends.
-const ROWS: [(&str, usize, &[u8], usize, Status, &str); 10] = [
+const ROWS: &[(&str, usize, &[u8], usize, Status, &str)] = &[
     (PRODUCT, 143, &[], 143, Status::Answered, PRODUCT_LINE),
     // the bounds of a goal are judged by what the certificate shows
     (
@@ -108,48 +112,33 @@ const ROWS: [(&str, usize, &[u8], usize, Status, &str); 10] = [
     ),
 ];
 
-// The certificate's bytes before `front`, the piece, and its bytes from `back` on.
-fn edited(alloc: Global, front: usize, piece: &[u8], back: usize) -> Result<Vec<u8>, AllocError> {
-    let mut bytes = CERT[..front.min(143)].to_vec(alloc)?;
-    bytes.extend_from_slice(piece)?;
-    bytes.extend_from_slice(&CERT[back.min(143)..])?;
-    Ok(bytes)
-}
-
 #[test]
 fn certificates_are_checked(rt: HostRuntime) -> Result<(), Fail> {
     for (text, front, piece, back, status, printed) in ROWS {
-        let cert = edited(rt.alloc(), front, piece, back)?;
-        let files = [("a", text.as_bytes()), ("c", cert.as_slice())];
-        for most in [1, 7, 4096] {
-            let outside = sound(&files, most);
-            run_ends(&rt, rt.alloc(), CHECK, &outside, status, printed)?;
-        }
+        let edit = (*front, *piece, *back);
+        let alloc = rt.alloc();
+        edit_ends(
+            &rt,
+            alloc,
+            text,
+            &CERT,
+            edit,
+            &[1, 7, 4096],
+            *status,
+            printed,
+        )?;
     }
     Ok(())
 }
 
 #[test]
 fn each_front_is_truncated_at_its_length(rt: HostRuntime) -> Result<(), Fail> {
-    for len in 0..143usize {
-        let line = format!(in rt.alloc(); "certificate: Truncated at {len}\n")?;
-        let files = [("a", PRODUCT.as_bytes()), ("c", &CERT[..len])];
-        let outside = sound(&files, 4096);
-        run_ends(
-            &rt,
-            rt.alloc(),
-            CHECK,
-            &outside,
-            Status::Certificate,
-            line.as_str(),
-        )?;
-    }
-    Ok(())
+    fronts_end(&rt, rt.alloc(), PRODUCT, &CERT)
 }
 
 // The bytes of the last step's upper end that are higher with their low bit turned, and what is
 // shown then.
-const WIDER: [(usize, &str); 8] = [
+const WIDER: &[(usize, &str)] = &[
     (103, "x * y in [3, 72057594037927941b1]\n"),
     (104, "x * y in [3, 281474976710661b1]\n"),
     (105, "x * y in [3, 1099511627781b1]\n"),
@@ -160,80 +149,110 @@ const WIDER: [(usize, &str); 8] = [
     (111, "x * y in [3, 5b257]\n"),
 ];
 
+// What is shown where the byte at this place is turned, or nothing.
+fn wider_line(place: usize) -> Option<&'static str> {
+    for (wider, line) in WIDER {
+        if *wider == place {
+            return Some(*line);
+        }
+    }
+    None
+}
+
+fn turned_ends(
+    rt: &(impl Abort + Threads + Wait + Sync),
+    alloc: Global,
+    place: usize,
+    byte: u8,
+) -> Result<(), Fail> {
+    let cert = edited(alloc, &CERT, place, &[byte ^ 1], place.saturating_add(1))?;
+    if let Some(line) = wider_line(place) {
+        return check_ends(rt, alloc, PRODUCT, &cert, &[4096], Status::Answered, line);
+    }
+    let files = [("a", PRODUCT.as_bytes()), ("c", cert.as_slice())];
+    let ended = run_on(rt, alloc, CHECK, &sound(&files, 4096))?;
+    let refused = Status::Certificate;
+    equal(rt, "a turned byte", place as u64, ended.status, refused);
+    Ok(())
+}
+
 #[test]
 fn a_turned_bit_shows_no_narrower_interval(rt: HostRuntime) -> Result<(), Fail> {
-    for place in 0..143usize {
-        let cert = edited(rt.alloc(), place, &[CERT[place] ^ 1], place + 1)?;
-        let files = [("a", PRODUCT.as_bytes()), ("c", cert.as_slice())];
-        let ended = run_on(&rt, rt.alloc(), CHECK, &sound(&files, 4096))?;
-        let wider = WIDER.iter().find(|row| row.0 == place);
-        let Some((_, line)) = wider else {
-            assert_eq!(rt; ended.status, Status::Certificate, "byte {place}");
-            continue;
-        };
-        assert_eq!(rt; ended.status, Status::Answered, "byte {place}");
-        assert_eq!(rt; ended.out.bytes(), line.as_bytes(), "byte {place}");
+    for (place, byte) in CERT.iter().enumerate() {
+        turned_ends(&rt, rt.alloc(), place, *byte)?;
     }
     Ok(())
+}
+
+// The certificate with its steps in another order.
+fn exchanged(alloc: Global) -> Result<Vec<u8>, AllocError> {
+    let mut cert = CERT[..20].to_vec(alloc)?;
+    cert.extend_from_slice(&CERT[84..132])?;
+    cert.extend_from_slice(&CERT[52..84])?;
+    cert.extend_from_slice(&CERT[20..52])?;
+    cert.extend_from_slice(&CERT[132..143])?;
+    Ok(cert)
 }
 
 #[test]
 fn exchanged_steps_are_refused(rt: HostRuntime) -> Result<(), Fail> {
-    let mut cert = CERT[..20].to_vec(rt.alloc())?;
-    for (from, to) in [(84, 132), (52, 84), (20, 52), (132, 143)] {
-        cert.extend_from_slice(&CERT[from..to])?;
-    }
-    let files = [("a", PRODUCT.as_bytes()), ("c", cert.as_slice())];
-    let outside = sound(&files, 4096);
-    run_ends(
-        &rt,
-        rt.alloc(),
-        CHECK,
-        &outside,
-        Status::Certificate,
-        "certificate: BadPremise 0\n",
-    )?;
-    Ok(())
+    let cert = exchanged(rt.alloc())?;
+    let line = "certificate: BadPremise 0\n";
+    let refused = Status::Certificate;
+    check_ends(&rt, rt.alloc(), PRODUCT, &cert, &[4096], refused, line)
 }
 
-// A script is read by two calls, the second at its end; then the certificate is.
+// Words, the number of the call that fails, and how the run ends. A script is read by two calls,
+// the second at its end; then the certificate is.
+const READS: &[(&[&str], u64, Status, &str)] = &[
+    (CHECK, 1, Status::ReadFault, "read fault: a\n"),
+    (CHECK, 2, Status::ReadFault, "read fault: a\n"),
+    (CHECK, 3, Status::ReadFault, "read fault: c\n"),
+    (CHECK, 4, Status::ReadFault, "read fault: c\n"),
+    (CHECK, 5, Status::Answered, PRODUCT_LINE),
+    (
+        &["check", "a", "d"],
+        0,
+        Status::ReadFault,
+        "read fault: d\n",
+    ),
+    (
+        &["check", "b", "d"],
+        0,
+        Status::ReadFault,
+        "read fault: b\n",
+    ),
+    // behind a text that is refused, no certificate is asked for
+    (
+        &["check", "r", "d"],
+        0,
+        Status::Script,
+        "script: BadToken at 0\n",
+    ),
+];
+
+fn read_ends(
+    rt: &(impl Abort + Threads + Wait + Sync),
+    alloc: Global,
+    words: &[&str],
+    failing: u64,
+    status: Status,
+    printed: &str,
+) -> Result<(), Fail> {
+    let outside = Outside {
+        files: &[("a", PRODUCT.as_bytes()), ("c", &CERT), ("r", b"!")],
+        failing_calls: &[failing],
+        failing_puts: &[],
+        room: 4096,
+        most: 4096,
+    };
+    run_ends(rt, alloc, words, &outside, status, printed)
+}
+
 #[test]
 fn a_read_fault_names_its_file(rt: HostRuntime) -> Result<(), Fail> {
-    let rows: [(&[&str], u64, Status, &str); 8] = [
-        (CHECK, 1, Status::ReadFault, "read fault: a\n"),
-        (CHECK, 2, Status::ReadFault, "read fault: a\n"),
-        (CHECK, 3, Status::ReadFault, "read fault: c\n"),
-        (CHECK, 4, Status::ReadFault, "read fault: c\n"),
-        (CHECK, 5, Status::Answered, PRODUCT_LINE),
-        (
-            &["check", "a", "d"],
-            0,
-            Status::ReadFault,
-            "read fault: d\n",
-        ),
-        (
-            &["check", "b", "d"],
-            0,
-            Status::ReadFault,
-            "read fault: b\n",
-        ),
-        // behind a text that is refused, no certificate is asked for
-        (
-            &["check", "r", "d"],
-            0,
-            Status::Script,
-            "script: BadToken at 0\n",
-        ),
-    ];
-    for (words, failing, status, printed) in rows {
-        let outside = Outside {
-            files: &[("a", PRODUCT.as_bytes()), ("c", &CERT), ("r", b"!")],
-            failing_calls: &[failing],
-            failing_puts: &[],
-            room: 4096,
-            most: 4096,
-        };
-        run_ends(&rt, rt.alloc(), words, &outside, status, printed)?;
+    for (words, failing, status, printed) in READS {
+        read_ends(&rt, rt.alloc(), *words, *failing, *status, printed)?;
     }
     Ok(())
 }

@@ -1,13 +1,13 @@
 // Scripts for the whole engine. Expected lines were worked out by hand, or by a plain program of
 // the definitions.
-use crate::runs::{texts_end, words_end};
+use crate::runs::{Row, rows_end, texts_end};
 use command_runs::Status;
 use std::test::Fail;
 
 const BOX: &str = "unproved: goal 1 at the whole box\n";
 
 // roundings, multiples, relative errors, rewriting and its hints
-const ANSWERED: [(&str, &str); 40] = [
+const ANSWERED: &[(&str, &str)] = &[
     (
         "@rnd = fixed<-4,dn>; y = rnd(x); { x in [0,1] -> y - x in ? }",
         "y - x in [-1b-4, 0]\n",
@@ -129,7 +129,7 @@ const ANSWERED: [(&str, &str); 40] = [
     ("{ x in [1,2] -> 1 / x in ? }", "1 / x in [1b-1, 1]\n"),
 ];
 
-const UNPROVED: [(&str, &str); 10] = [
+const UNPROVED: &[(&str, &str)] = &[
     ("{ x -/ y in [-0.5,0.5] -> x in ? }", BOX),
     ("{ @FIX(x,-3) -> x in ? }", BOX),
     ("{ x -/ y in ? }", BOX),
@@ -157,7 +157,7 @@ const UNPROVED: [(&str, &str); 10] = [
 ];
 
 // 1,057 expressions would be needed
-const MANY: [(&str, &str); 1] = [(
+const MANY: &[(&str, &str)] = &[(
     "{ a in ? } a ~ b1; a ~ b2; a ~ b3; a ~ b4; a ~ b5; a ~ b6; a ~ b7; a ~ b8; a ~ b9; a ~ b10; a ~ b11; a ~ b12; \
      a ~ b13; a ~ b14; a ~ b15; a ~ b16; a ~ b17; a ~ b18; a ~ b19; a ~ b20; a ~ b21; a ~ b22; a ~ b23; a ~ b24; \
      a ~ b25; a ~ b26; a ~ b27; a ~ b28; a ~ b29; a ~ b30; a ~ b31; a ~ b32;",
@@ -166,9 +166,9 @@ const MANY: [(&str, &str); 1] = [(
 
 #[test]
 fn the_engine_answers(rt: HostRuntime) -> Result<(), Fail> {
-    texts_end(&rt, rt.alloc(), Status::Answered, &ANSWERED)?;
-    texts_end(&rt, rt.alloc(), Status::Unproved, &UNPROVED)?;
-    texts_end(&rt, rt.alloc(), Status::Limit, &MANY)
+    texts_end(&rt, rt.alloc(), Status::Answered, ANSWERED)?;
+    texts_end(&rt, rt.alloc(), Status::Unproved, UNPROVED)?;
+    texts_end(&rt, rt.alloc(), Status::Limit, MANY)
 }
 
 const HALVED: &str = "{ x in [0,1] -> x * (1 - x) in [0,0.3] } x * (1 - x) $ x;";
@@ -180,7 +180,7 @@ const INTERPOLATION: &str =
     { @FIX(a,-15) /\\ @FIX(b,-15) /\\ @FIX(t,-15) /\\ a in [0,1] /\\ b in [0,1] /\\ t in [0,1] -> r in ? /\\ r - Mr in ? }";
 
 // Words, the text of `a`, and how the run ends.
-const OPTIONS: [(&[&str], &str, Status, &str); 18] = [
+const OPTIONS: &[Row] = &[
     (
         &["prove", "a", "--depth", "3"],
         HALVED,
@@ -298,10 +298,7 @@ const OPTIONS: [(&[&str], &str, Status, &str); 18] = [
 
 #[test]
 fn options_change_the_answer(rt: HostRuntime) -> Result<(), Fail> {
-    for (words, text, status, line) in OPTIONS {
-        words_end(&rt, rt.alloc(), words, text.as_bytes(), status, line)?;
-    }
-    Ok(())
+    rows_end(&rt, rt.alloc(), OPTIONS)
 }
 
 // The halved script on the right half of its range.
@@ -312,7 +309,7 @@ const CUT: &str = "{ x in [0,1] -> x * (1 - x) in ? } $ x in 4;";
 const PROVE: &[&str] = &["prove", "a"];
 
 // Words, the text of `a`, and how the run ends.
-const BOXES: [(&[&str], &str, Status, &str); 13] = [
+const BOXES: &[Row] = &[
     // by three halvings the tree has 11 boxes, of which two are open; the first is named
     (
         &["prove", "a", "--depth", "3", "--boxes", "10"],
@@ -400,14 +397,11 @@ const BOXES: [(&[&str], &str, Status, &str); 13] = [
 
 #[test]
 fn boxes_are_counted_and_named(rt: HostRuntime) -> Result<(), Fail> {
-    for (words, text, status, line) in BOXES {
-        words_end(&rt, rt.alloc(), words, text.as_bytes(), status, line)?;
-    }
-    Ok(())
+    rows_end(&rt, rt.alloc(), BOXES)
 }
 
 // scripts that would need the engine, and are refused
-const REFUSED: [(&str, &str); 6] = [
+const REFUSED: &[(&str, &str)] = &[
     (
         "{ x in [0,1] -> int<zr>(x) in ? } !",
         "script: BadToken at 34\n",
@@ -433,5 +427,5 @@ const REFUSED: [(&str, &str); 6] = [
 
 #[test]
 fn a_refusal_wins(rt: HostRuntime) -> Result<(), Fail> {
-    texts_end(&rt, rt.alloc(), Status::Script, &REFUSED)
+    texts_end(&rt, rt.alloc(), Status::Script, REFUSED)
 }

@@ -1,9 +1,13 @@
 // Runs whose outside fails: each read and each put of each line, a name that isn't there, a sink
 // without room.
-use crate::runs::{Run, ends, ends_on, room_ends};
+use crate::runs::{Run, ends, ends_on, pieces_end, room_ends};
 use crate::words::USAGE;
 use command_runs::Status;
+use std::alloc::Global;
+use std::process::Abort;
+use std::sync::Wait;
 use std::test::Fail;
+use std::thread::Threads;
 
 const PRODUCT: &[u8] = b"{ x in [1,2] /\\ y in [3,5] -> x * y in ? }";
 
@@ -20,17 +24,25 @@ fn each_call_may_move_one_byte(rt: HostRuntime) -> Result<(), Fail> {
     ends(&rt, rt.alloc(), &run, Status::Answered, PRODUCT_LINE)
 }
 
+fn read_fails(
+    rt: &(impl Abort + Threads + Wait + Sync),
+    alloc: Global,
+    number: u64,
+) -> Result<(), Fail> {
+    let run = Run {
+        text: PRODUCT,
+        failing_reads: &[number],
+        failing_puts: &[],
+        most: 1,
+    };
+    ends(rt, alloc, &run, Status::ReadFault, "read fault: a\n")
+}
+
 // The text has 42 bytes and its end, so that there are 43 reads of one byte.
 #[test]
 fn each_read_may_fail(rt: HostRuntime) -> Result<(), Fail> {
     for number in 1..44u64 {
-        let run = Run {
-            text: PRODUCT,
-            failing_reads: &[number],
-            failing_puts: &[],
-            most: 1,
-        };
-        ends(&rt, rt.alloc(), &run, Status::ReadFault, "read fault: a\n")?;
+        read_fails(&rt, rt.alloc(), number)?;
     }
     Ok(())
 }
@@ -48,28 +60,13 @@ fn a_failing_refusal_is_a_write_fault(rt: HostRuntime) -> Result<(), Fail> {
 
 #[test]
 fn an_absent_name_is_a_read_fault(rt: HostRuntime) -> Result<(), Fail> {
-    for most in [1, 4096] {
-        let run = Run {
-            text: PRODUCT,
-            failing_reads: &[],
-            failing_puts: &[],
-            most,
-        };
-        let words = ["prove", "b"];
-        ends_on(
-            &rt,
-            rt.alloc(),
-            &words,
-            &run,
-            Status::ReadFault,
-            "read fault: b\n",
-        )?;
-    }
-    Ok(())
+    let (words, files) = (["prove", "b"], [("a", PRODUCT)]);
+    let (failed, line) = (Status::ReadFault, "read fault: b\n");
+    pieces_end(&rt, rt.alloc(), &words, &files, &[1, 4096], failed, line)
 }
 
 // Words, a text, the reads that fail, and the text that is then put a byte a call.
-const LINES: [(&[&str], &[u8], &[u64], &str); 7] = [
+const LINES: &[(&[&str], &[u8], &[u64], &str)] = &[
     (&["prove"], PRODUCT, &[], USAGE),
     (&["prove", "a"], PRODUCT, &[7], "read fault: a\n"),
     (&["prove", "a"], b"", &[], "script: Unexpected at 0\n"),
@@ -94,33 +91,48 @@ const LINES: [(&[&str], &[u8], &[u64], &str); 7] = [
     ),
 ];
 
+// The put behind the first `done` fails.
+fn put_fails(
+    rt: &(impl Abort + Threads + Wait + Sync),
+    alloc: Global,
+    words: &[&str],
+    text: &[u8],
+    failing_reads: &[u64],
+    line: &str,
+    done: usize,
+) -> Result<(), Fail> {
+    let run = Run {
+        text,
+        failing_reads,
+        failing_puts: &[done as u64 + 1],
+        most: 1,
+    };
+    let front = line.get(..done).unwrap_or("");
+    ends_on(rt, alloc, words, &run, Status::WriteFault, front)
+}
+
 #[test]
 fn each_put_of_each_line_may_fail(rt: HostRuntime) -> Result<(), Fail> {
     for (words, text, failing_reads, line) in LINES {
-        for number in 1..line.len() + 1 {
-            let run = Run {
-                text,
-                failing_reads,
-                failing_puts: &[number as u64],
-                most: 1,
-            };
-            let front = line.get(..number - 1).unwrap_or("");
-            ends_on(&rt, rt.alloc(), words, &run, Status::WriteFault, front)?;
+        for done in 0..line.len() {
+            put_fails(&rt, rt.alloc(), *words, *text, *failing_reads, line, done)?;
         }
     }
     Ok(())
 }
 
+// The room of a sink, and how the run ends.
+const ROOMS: &[(usize, Status, &str)] = &[
+    (0, Status::WriteFault, ""),
+    (5, Status::WriteFault, "x * y"),
+    (17, Status::WriteFault, "x * y in [3, 5b1]"),
+    (18, Status::Answered, "x * y in [3, 5b1]\n"),
+];
+
 #[test]
 fn a_sink_takes_what_has_room(rt: HostRuntime) -> Result<(), Fail> {
-    let rows = [
-        (0, Status::WriteFault, ""),
-        (5, Status::WriteFault, "x * y"),
-        (17, Status::WriteFault, "x * y in [3, 5b1]"),
-        (18, Status::Answered, "x * y in [3, 5b1]\n"),
-    ];
-    for (room, status, printed) in rows {
-        room_ends(&rt, rt.alloc(), PRODUCT, room, status, printed)?;
+    for (room, status, printed) in ROOMS {
+        room_ends(&rt, rt.alloc(), PRODUCT, *room, *status, printed)?;
     }
     Ok(())
 }

@@ -12,6 +12,8 @@ mod checks;
 #[cfg(test)]
 mod engine;
 #[cfg(test)]
+mod equals;
+#[cfg(test)]
 mod faults;
 #[cfg(test)]
 mod limits;

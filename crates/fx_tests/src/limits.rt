@@ -33,7 +33,7 @@ fn rows_end(
 const PRODUCT: &str = "{ x in [1,2] /\\ y in [3,5] -> x * y in ? }";
 
 // The product has 42 bytes, and 2^20 is 1,048,576.
-const BYTES: [(Pieces, Status, &str); 5] = [
+const BYTES: &[(Pieces, Status, &str)] = &[
     (
         &[(PRODUCT, 1), (" ", 1_048_534)],
         ANSWERED,
@@ -63,11 +63,11 @@ const BYTES: [(Pieces, Status, &str); 5] = [
 
 #[test]
 fn bytes_of_a_text(rt: HostRuntime) -> Result<(), Fail> {
-    rows_end(&rt, rt.alloc(), &BYTES)
+    rows_end(&rt, rt.alloc(), BYTES)
 }
 
 // Parentheses, bars and minus signs that are open count together, and those of a call.
-const NESTING: [(Pieces, Status, &str); 9] = [
+const NESTING: &[(Pieces, Status, &str)] = &[
     (
         &[("{ ", 1), ("(", 64), ("x", 1), (")", 64), (" in ? }", 1)],
         UNPROVED,
@@ -119,10 +119,10 @@ const NESTING: [(Pieces, Status, &str); 9] = [
 
 #[test]
 fn nesting_of_an_expression(rt: HostRuntime) -> Result<(), Fail> {
-    rows_end(&rt, rt.alloc(), &NESTING)
+    rows_end(&rt, rt.alloc(), NESTING)
 }
 
-const COUNTS: [(Pieces, Status, &str); 15] = [
+const COUNTS: &[(Pieces, Status, &str)] = &[
     // propositions: the 128th is the one that isn't proved
     (
         &[("{", 1), ("1 in?/\\", 127), ("x in?}", 1)],
@@ -208,7 +208,7 @@ const COUNTS: [(Pieces, Status, &str); 15] = [
 
 #[test]
 fn counts_of_a_text(rt: HostRuntime) -> Result<(), Fail> {
-    rows_end(&rt, rt.alloc(), &COUNTS)
+    rows_end(&rt, rt.alloc(), COUNTS)
 }
 
 // The definitions `a100=1;` to the one before `end`, of 7 bytes each, and a goal.
@@ -222,15 +222,27 @@ fn definitions(alloc: Global, end: usize) -> Result<Vec<u8>, AllocError> {
     Ok(text)
 }
 
+// The end of the definitions, and how the run ends.
+const DEFINITIONS: &[(usize, Status, &str)] = &[
+    (356, UNPROVED, FIRST),
+    (357, REFUSED, "script: Limit(Definitions) at 1792\n"),
+];
+
+fn definitions_end(
+    rt: &(impl Abort + Threads + Wait + Sync),
+    alloc: Global,
+    end: usize,
+    status: Status,
+    line: &str,
+) -> Result<(), Fail> {
+    let text = definitions(alloc, end)?;
+    words_end(rt, alloc, &["prove", "a"], &text, status, line)
+}
+
 #[test]
 fn definitions_of_a_text(rt: HostRuntime) -> Result<(), Fail> {
-    let rows = [
-        (356, UNPROVED, FIRST),
-        (357, REFUSED, "script: Limit(Definitions) at 1792\n"),
-    ];
-    for (end, status, line) in rows {
-        let text = definitions(rt.alloc(), end)?;
-        words_end(&rt, rt.alloc(), &["prove", "a"], &text, status, line)?;
+    for (end, status, line) in DEFINITIONS {
+        definitions_end(&rt, rt.alloc(), *end, *status, line)?;
     }
     Ok(())
 }
@@ -241,7 +253,7 @@ const POINTS: &str = "{x in[0,99]->x in?}$x in(\
     01,02,03,04,05,06,07,08,09,10,11,12,13,14,15,16,17,18,19,20,21,22,23,24,25,26,27,28,29,30,31,32,\
     33,34,35,36,37,38,39,40,41,42,43,44,45,46,47,48,49,50,51,52,53,54,55,56,57,58,59,60,61,62,63";
 
-const SPLITS: [(Pieces, Status, &str); 13] = [
+const SPLITS: &[(Pieces, Status, &str)] = &[
     // places of the last bit, and of multiples
     (&[("@q = fixed<512,dn>; { x in ? }", 1)], UNPROVED, FIRST),
     (
@@ -294,10 +306,10 @@ const SPLITS: [(Pieces, Status, &str); 13] = [
 
 #[test]
 fn splits_of_a_text(rt: HostRuntime) -> Result<(), Fail> {
-    rows_end(&rt, rt.alloc(), &SPLITS)
+    rows_end(&rt, rt.alloc(), SPLITS)
 }
 
-const MORE_POINTS: [(Pieces, Status, &str); 2] = [
+const MORE_POINTS: &[(Pieces, Status, &str)] = &[
     (
         &[(POINTS, 1), (",64);", 1)],
         REFUSED,
@@ -313,5 +325,5 @@ const MORE_POINTS: [(Pieces, Status, &str); 2] = [
 
 #[test]
 fn points_of_a_cut(rt: HostRuntime) -> Result<(), Fail> {
-    rows_end(&rt, rt.alloc(), &MORE_POINTS)
+    rows_end(&rt, rt.alloc(), MORE_POINTS)
 }

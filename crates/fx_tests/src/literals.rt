@@ -5,7 +5,7 @@ use std::test::Fail;
 
 const ZERO: &str = "0 in [0, 0]\n";
 
-const WITHIN: [(&str, &str); 12] = [
+const WITHIN: &[(&str, &str)] = &[
     (
         "{ x in [0,1.00000000000000000000000000000] -> x in ? }",
         "x in [0, 1]\n",
@@ -30,12 +30,12 @@ const WITHIN: [(&str, &str); 12] = [
 
 #[test]
 fn literals_within_their_limits(rt: HostRuntime) -> Result<(), Fail> {
-    texts_end(&rt, rt.alloc(), Status::Answered, &WITHIN)
+    texts_end(&rt, rt.alloc(), Status::Answered, WITHIN)
 }
 
 const PAST: &str = "script: LiteralLimit at 7\n";
 
-const BEYOND: [(&str, &str); 14] = [
+const BEYOND: &[(&str, &str)] = &[
     (
         "{ x in [0,1.000000000000000000000000000000] -> x in ? }",
         "script: LiteralLimit at 10\n",
@@ -57,5 +57,5 @@ const BEYOND: [(&str, &str); 14] = [
 
 #[test]
 fn literals_past_their_limits(rt: HostRuntime) -> Result<(), Fail> {
-    texts_end(&rt, rt.alloc(), Status::Script, &BEYOND)
+    texts_end(&rt, rt.alloc(), Status::Script, BEYOND)
 }

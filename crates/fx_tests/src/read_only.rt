@@ -1,5 +1,6 @@
 // Commands that only read: `at` and `batch`. Expected lines were worked out by hand.
-use crate::runs::{Outside, run_ends, run_on, sound};
+use crate::equals::{bytes_are, equal};
+use crate::runs::{Outside, pieces_end, run_on, sound};
 use crate::words::USAGE;
 use command_runs::Status;
 use std::alloc::Global;
@@ -19,7 +20,7 @@ const PRODUCT: &str = "{ x in [1,2] /\\ y in [3,5] -> x * y in ? }";
 const OPEN: &str = "{ x in ? }";
 
 // The texts of `a` and `b`, and how `at` ends on them.
-const POINTS: [(&str, &str, Status, &str); 14] = [
+const POINTS: &[(&str, &str, Status, &str)] = &[
     (
         ROUNDED,
         "x = 1 / 3;",
@@ -87,10 +88,8 @@ const POINTS: [(&str, &str, Status, &str); 14] = [
 #[test]
 fn points_of_scripts(rt: HostRuntime) -> Result<(), Fail> {
     for (text, point, status, printed) in POINTS {
-        for most in [1, 4096] {
-            let files = [("a", text.as_bytes()), ("b", point.as_bytes())];
-            run_ends(&rt, rt.alloc(), AT, &sound(&files, most), status, printed)?;
-        }
+        let files = [("a", text.as_bytes()), ("b", point.as_bytes())];
+        pieces_end(&rt, rt.alloc(), AT, &files, &[1, 4096], *status, printed)?;
     }
     Ok(())
 }
@@ -98,7 +97,7 @@ fn points_of_scripts(rt: HostRuntime) -> Result<(), Fail> {
 const BOTH: &str = "script a\nx * y in [3, 5b1]\nscript b\nunproved: goal 1 at the whole box\n";
 
 // Words, the list, and how the run ends where `a` is proved and `b` stays unproved.
-const LISTS: [(&[&str], &str, Status, &str); 9] = [
+const LISTS: &[(&[&str], &str, Status, &str)] = &[
     (BATCH, "a\nb\n", Status::Unproved, BOTH),
     (
         &["batch", "c", "--workers", "1"],
@@ -143,20 +142,62 @@ fn lists_of_scripts(rt: HostRuntime) -> Result<(), Fail> {
             ("b", OPEN.as_bytes()),
             ("c", list.as_bytes()),
         ];
-        run_ends(
-            &rt,
-            rt.alloc(),
-            words,
-            &sound(&files, 4096),
-            status,
-            printed,
-        )?;
+        pieces_end(&rt, rt.alloc(), *words, &files, &[4096], *status, printed)?;
     }
     Ok(())
 }
 
-// Each call of the folder and each put fails in turn, until a run meets no fault: a read fault
-// names a file, and what was put is a front of the lines.
+// A call of the folder fails: a read fault comes. False where the run meets no fault, and has its
+// lines.
+fn call_fails(
+    rt: &(impl Abort + Threads + Wait + Sync),
+    alloc: Global,
+    words: &[&str],
+    files: &[(&str, &[u8])],
+    status: Status,
+    printed: &str,
+    number: u64,
+) -> Result<bool, Fail> {
+    let failing = [number];
+    let outside = Outside {
+        failing_calls: &failing,
+        ..sound(&*files, 16)
+    };
+    let ended = run_on(rt, alloc, words, &outside)?;
+    if ended.status == status {
+        bytes_are(rt, printed, number, ended.out.bytes(), printed.as_bytes());
+        return Ok(false);
+    }
+    equal(rt, printed, number, ended.status, Status::ReadFault);
+    Ok(true)
+}
+
+// A put fails: where the run ends by that, what was put is a front of the lines.
+fn put_fails(
+    rt: &(impl Abort + Threads + Wait + Sync),
+    alloc: Global,
+    words: &[&str],
+    files: &[(&str, &[u8])],
+    status: Status,
+    printed: &str,
+    number: u64,
+) -> Result<(), Fail> {
+    let failing = [number];
+    let outside = Outside {
+        failing_puts: &failing,
+        ..sound(&*files, 16)
+    };
+    let ended = run_on(rt, alloc, words, &outside)?;
+    if ended.status != status {
+        let done = 16 * number.saturating_sub(1).min(100) as usize;
+        let front = printed.get(..done).unwrap_or("");
+        equal(rt, printed, number, ended.status, Status::WriteFault);
+        bytes_are(rt, printed, number, ended.out.bytes(), front.as_bytes());
+    }
+    Ok(())
+}
+
+// Each call of the folder and each put fails in turn, until a run meets no fault.
 fn calls_fail(
     rt: &(impl Abort + Threads + Wait + Sync),
     alloc: Global,
@@ -165,28 +206,11 @@ fn calls_fail(
     status: Status,
     printed: &str,
 ) -> Result<(), Fail> {
-    for number in 1..40usize {
-        let failing = [number as u64];
-        let outside = Outside {
-            failing_calls: &failing,
-            ..sound(&*files, 16)
-        };
-        let ended = run_on(rt, alloc, words, &outside)?;
-        if ended.status == status {
-            assert_eq!(rt; ended.out.bytes(), printed.as_bytes());
+    for number in 1..40u64 {
+        if !call_fails(rt, alloc, words, files, status, printed, number)? {
             return Ok(());
         }
-        assert_eq!(rt; ended.status, Status::ReadFault, "call {number}");
-        let outside = Outside {
-            failing_puts: &failing,
-            ..sound(&*files, 16)
-        };
-        let ended = run_on(rt, alloc, words, &outside)?;
-        if ended.status != status {
-            let front = printed.get(..16 * (number - 1)).unwrap_or("");
-            assert_eq!(rt; ended.status, Status::WriteFault, "put {number}");
-            assert_eq!(rt; ended.out.bytes(), front.as_bytes(), "put {number}");
-        }
+        put_fails(rt, alloc, words, files, status, printed, number)?;
     }
     panic!(rt; "each run met a fault")
 }

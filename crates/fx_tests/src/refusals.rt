@@ -3,7 +3,7 @@ use crate::runs::{texts_end, words_end};
 use command_runs::Status;
 use std::test::Fail;
 
-const NO_TEXTS: [(&[u8], &str); 4] = [
+const NO_TEXTS: &[(&[u8], &str)] = &[
     (b"{ x\xff", "script: NotText at 3\n"),
     (b"\xff\xfe\x00", "script: NotText at 0\n"),
     // it is judged before all that follows, and in comments too
@@ -14,12 +14,19 @@ const NO_TEXTS: [(&[u8], &str); 4] = [
 #[test]
 fn bytes_that_are_no_text(rt: HostRuntime) -> Result<(), Fail> {
     for (text, line) in NO_TEXTS {
-        words_end(&rt, rt.alloc(), &["prove", "a"], text, Status::Script, line)?;
+        words_end(
+            &rt,
+            rt.alloc(),
+            &["prove", "a"],
+            *text,
+            Status::Script,
+            line,
+        )?;
     }
     Ok(())
 }
 
-const READING: [(&str, &str); 33] = [
+const READING: &[(&str, &str)] = &[
     // BadToken
     ("{ x in [0,1] -> x in ? } !", "script: BadToken at 25\n"),
     ("{ x in [1.,2] -> x in ? }", "script: BadToken at 9\n"),
@@ -82,10 +89,10 @@ const READING: [(&str, &str); 33] = [
 
 #[test]
 fn words_without_a_place(rt: HostRuntime) -> Result<(), Fail> {
-    texts_end(&rt, rt.alloc(), Status::Script, &READING)
+    texts_end(&rt, rt.alloc(), Status::Script, READING)
 }
 
-const JUDGING: [(&str, &str); 28] = [
+const JUDGING: &[(&str, &str)] = &[
     // NameUsed
     ("x = 1; x = 2; { x in ? }", "script: NameUsed at 7\n"),
     ("x = x + 1; { x in ? }", "script: NameUsed at 0\n"),
@@ -166,5 +173,5 @@ const JUDGING: [(&str, &str); 28] = [
 
 #[test]
 fn words_that_are_judged(rt: HostRuntime) -> Result<(), Fail> {
-    texts_end(&rt, rt.alloc(), Status::Script, &JUDGING)
+    texts_end(&rt, rt.alloc(), Status::Script, JUDGING)
 }

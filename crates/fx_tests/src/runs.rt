@@ -1,4 +1,5 @@
 // One run over memory forms, and what it has to answer.
+use crate::equals::{bytes_are, equal};
 use command_runs::Status;
 use fx_edge::{MemFolder, MemSink, OpenGate, SureFolder, SureSink};
 use fx_top::fx_run;
@@ -35,6 +36,9 @@ fn files_with(alloc: Global, text: &[u8]) -> Result<Vec<(String, Vec<u8>)>, Allo
     Ok(files)
 }
 
+/// The words of a run, the text of `a`, and how it ends.
+pub type Row = (&'static [&'static str], &'static str, Status, &'static str);
+
 /// The run ends with this status and line.
 pub fn ends(
     rt: &(impl Abort + Threads + Wait + Sync),
@@ -62,8 +66,7 @@ pub fn ends_on(
         room: 4096,
         most: run.most,
     };
-    run_ends(rt, alloc, words, &outside, status, printed)?;
-    Ok(())
+    run_ends(rt, alloc, words, &outside, status, printed)
 }
 
 /// The words over a sure folder with the file `a` and a sure sink end with this status and line.
@@ -79,8 +82,20 @@ pub fn words_end(
     let mut out = SureSink::new(alloc, 4096)?;
     let words = words_of(alloc, words)?;
     let ended = fx_run(rt, alloc, &words, &mut folder, &mut out, &OpenGate);
-    assert_eq!(rt; ended, status, "{}", printed);
-    assert_eq!(rt; out.bytes(), printed.as_bytes(), "{}", printed);
+    equal(rt, printed, 0, ended, status);
+    bytes_are(rt, printed, 0, out.bytes(), printed.as_bytes());
+    Ok(())
+}
+
+/// The run of each row over a sure folder and a sure sink ends as the row says.
+pub fn rows_end(
+    rt: &(impl Abort + Threads + Wait + Sync),
+    alloc: Global,
+    rows: &[Row],
+) -> Result<(), Fail> {
+    for (words, text, status, line) in rows {
+        words_end(rt, alloc, *words, text.as_bytes(), *status, line)?;
+    }
     Ok(())
 }
 
@@ -144,7 +159,7 @@ pub fn run_on(
 }
 
 /// The words end with this status and line. What they left is answered.
-pub fn run_ends(
+pub fn run_left(
     rt: &(impl Abort + Threads + Wait + Sync),
     alloc: Global,
     words: &[&str],
@@ -153,9 +168,116 @@ pub fn run_ends(
     printed: &str,
 ) -> Result<Ended, Fail> {
     let ended = run_on(rt, alloc, words, outside)?;
-    assert_eq!(rt; ended.status, status, "{}", printed);
-    assert_eq!(rt; ended.out.bytes(), printed.as_bytes(), "{}", printed);
+    equal(rt, printed, 0, ended.status, status);
+    bytes_are(rt, printed, 0, ended.out.bytes(), printed.as_bytes());
     Ok(ended)
+}
+
+/// The words end with this status and line.
+pub fn run_ends(
+    rt: &(impl Abort + Threads + Wait + Sync),
+    alloc: Global,
+    words: &[&str],
+    outside: &Outside<'_>,
+    status: Status,
+    printed: &str,
+) -> Result<(), Fail> {
+    run_left(rt, alloc, words, outside, status, printed)?;
+    Ok(())
+}
+
+/// The words end so over these files, where a call moves this many bytes at most, for each number.
+pub fn pieces_end(
+    rt: &(impl Abort + Threads + Wait + Sync),
+    alloc: Global,
+    words: &[&str],
+    files: &[(&str, &[u8])],
+    pieces: &[usize],
+    status: Status,
+    printed: &str,
+) -> Result<(), Fail> {
+    for most in pieces {
+        run_ends(rt, alloc, words, &sound(&*files, *most), status, printed)?;
+    }
+    Ok(())
+}
+
+/// The check of the certificate `c` against the script `a` ends so, for each number as above.
+pub fn check_ends(
+    rt: &(impl Abort + Threads + Wait + Sync),
+    alloc: Global,
+    text: &str,
+    cert: &[u8],
+    pieces: &[usize],
+    status: Status,
+    printed: &str,
+) -> Result<(), Fail> {
+    let files = [("a", text.as_bytes()), ("c", cert)];
+    pieces_end(
+        rt,
+        alloc,
+        &["check", "a", "c"],
+        &files,
+        pieces,
+        status,
+        printed,
+    )
+}
+
+/// The bytes before `front`, the piece, and the bytes from `back` on.
+pub fn edited(
+    alloc: Global,
+    bytes: &[u8],
+    front: usize,
+    piece: &[u8],
+    back: usize,
+) -> Result<Vec<u8>, AllocError> {
+    let mut all = bytes[..front.min(bytes.len())].to_vec(alloc)?;
+    all.extend_from_slice(piece)?;
+    all.extend_from_slice(&bytes[back.min(bytes.len())..])?;
+    Ok(all)
+}
+
+/// The certificate's bytes before a place, a piece, and its bytes from a place on.
+pub type Edit = (usize, &'static [u8], usize);
+
+/// The check of the edited certificate ends so, for each number as above.
+pub fn edit_ends(
+    rt: &(impl Abort + Threads + Wait + Sync),
+    alloc: Global,
+    text: &str,
+    cert: &[u8],
+    edit: Edit,
+    pieces: &[usize],
+    status: Status,
+    printed: &str,
+) -> Result<(), Fail> {
+    let (front, piece, back) = edit;
+    let cert = edited(alloc, cert, front, piece, back)?;
+    check_ends(rt, alloc, text, &cert, pieces, status, printed)
+}
+
+/// Each front of the certificate is truncated at its length.
+pub fn fronts_end(
+    rt: &(impl Abort + Threads + Wait + Sync),
+    alloc: Global,
+    text: &str,
+    cert: &[u8],
+) -> Result<(), Fail> {
+    for len in 0..cert.len() {
+        let line = format!(in alloc; "certificate: Truncated at {len}\n")?;
+        let front = &cert[..len];
+        check_ends(
+            rt,
+            alloc,
+            text,
+            front,
+            &[4096],
+            Status::Certificate,
+            line.as_str(),
+        )?;
+    }
+    Ok(())
 }
 
 /// `prove` on each text ends with this status and the line beside it.
@@ -195,7 +317,7 @@ pub fn room_ends(
     let mut out = SureSink::new(alloc, room)?;
     let words = words_of(alloc, &["prove", "a"])?;
     let ended = fx_run(rt, alloc, &words, &mut folder, &mut out, &OpenGate);
-    assert_eq!(rt; ended, status, "{}", printed);
-    assert_eq!(rt; out.bytes(), printed.as_bytes(), "{}", printed);
+    equal(rt, printed, 0, ended, status);
+    bytes_are(rt, printed, 0, out.bytes(), printed.as_bytes());
     Ok(())
 }

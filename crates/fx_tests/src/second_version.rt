@@ -1,28 +1,21 @@
 // The worked certificate in version 2, damaged: how its check ends. Faults were worked out by hand,
 // and are those of a plain program of the definitions.
 use crate::made_files::{PRODUCT, SECOND};
-use crate::runs::{run_ends, sound};
+use crate::runs::{edit_ends, fronts_end};
 use command_runs::Status;
-use std::alloc::{AllocError, Global};
+use std::alloc::Global;
+use std::process::Abort;
+use std::sync::Wait;
 use std::test::Fail;
-
-const CHECK: &[&str] = &["check", "a", "c"];
+use std::thread::Threads;
 
 const REFUSED: Status = Status::Certificate;
-
-// The certificate's bytes before `front`, the piece, and its bytes from `back` on.
-fn edited(alloc: Global, front: usize, piece: &[u8], back: usize) -> Result<Vec<u8>, AllocError> {
-    let mut bytes = SECOND[..front.min(61)].to_vec(alloc)?;
-    bytes.extend_from_slice(piece)?;
-    bytes.extend_from_slice(&SECOND[back.min(61)..])?;
-    Ok(bytes)
-}
 
 // The certificate's bytes before a place, a piece, and its bytes from a place on; and the line.
 type Damage = (usize, &'static [u8], usize, &'static str);
 
 // What is no certificate.
-const BYTES: [Damage; 41] = [
+const BYTES: &[Damage] = &[
     // the magic, the version
     (3, &[68], 4, "certificate: BadMagic at 0\n"),
     (4, &[0], 5, "certificate: BadVersion at 4\n"),
@@ -122,32 +115,31 @@ const BYTES: [Damage; 41] = [
     (61, &[0], 61, "certificate: TrailingBytes at 61\n"),
 ];
 
-#[test]
-fn damaged_bytes_are_named(rt: HostRuntime) -> Result<(), Fail> {
-    for (front, piece, back, line) in BYTES {
-        let cert = edited(rt.alloc(), front, piece, back)?;
-        let files = [("a", PRODUCT.as_bytes()), ("c", cert.as_slice())];
-        for most in [1, 4096] {
-            let outside = sound(&files, most);
-            run_ends(&rt, rt.alloc(), CHECK, &outside, REFUSED, line)?;
-        }
+// The check of each damaged certificate ends with the line of its row.
+fn damages_end(
+    rt: &(impl Abort + Threads + Wait + Sync),
+    alloc: Global,
+    rows: &[Damage],
+) -> Result<(), Fail> {
+    for (front, piece, back, line) in rows {
+        let edit = (*front, *piece, *back);
+        edit_ends(rt, alloc, PRODUCT, &SECOND, edit, &[1, 4096], REFUSED, line)?;
     }
     Ok(())
+}
+
+#[test]
+fn damaged_bytes_are_named(rt: HostRuntime) -> Result<(), Fail> {
+    damages_end(&rt, rt.alloc(), BYTES)
 }
 
 #[test]
 fn each_front_is_truncated_at_its_length(rt: HostRuntime) -> Result<(), Fail> {
-    for len in 0..61usize {
-        let line = format!(in rt.alloc(); "certificate: Truncated at {len}\n")?;
-        let files = [("a", PRODUCT.as_bytes()), ("c", &SECOND[..len])];
-        let outside = sound(&files, 4096);
-        run_ends(&rt, rt.alloc(), CHECK, &outside, REFUSED, line.as_str())?;
-    }
-    Ok(())
+    fronts_end(&rt, rt.alloc(), PRODUCT, &SECOND)
 }
 
 // What is one, and isn't accepted.
-const ITEMS: [Damage; 21] = [
+const ITEMS: &[Damage] = &[
     // fewer nodes than the script has, another operand
     (5, &[2], 6, "certificate: WrongScript 2\n"),
     (12, &[0], 13, "certificate: WrongScript 2\n"),
@@ -201,15 +193,7 @@ const ITEMS: [Damage; 21] = [
 
 #[test]
 fn damaged_items_are_named(rt: HostRuntime) -> Result<(), Fail> {
-    for (front, piece, back, line) in ITEMS {
-        let cert = edited(rt.alloc(), front, piece, back)?;
-        let files = [("a", PRODUCT.as_bytes()), ("c", cert.as_slice())];
-        for most in [1, 4096] {
-            let outside = sound(&files, most);
-            run_ends(&rt, rt.alloc(), CHECK, &outside, REFUSED, line)?;
-        }
-    }
-    Ok(())
+    damages_end(&rt, rt.alloc(), ITEMS)
 }
 
 // The same script with a hint that holds whatever its variables are.
@@ -217,7 +201,7 @@ const HINTED: &str = "{ x in [1,2] /\\ y in [3,5] -> x * y in ? } x * y -> x * y
 
 // A script, the bytes as above, and how the check of these ends: a wider interval, a cut whose
 // pieces have no step of their own, a mark, and what is none.
-const OTHERS: [(&str, usize, &[u8], usize, Status, &str); 6] = [
+const OTHERS: &[(&str, usize, &[u8], usize, Status, &str)] = &[
     (
         PRODUCT,
         46,
@@ -264,12 +248,9 @@ const OTHERS: [(&str, usize, &[u8], usize, Status, &str); 6] = [
 #[test]
 fn other_certificates_and_scripts(rt: HostRuntime) -> Result<(), Fail> {
     for (text, front, piece, back, status, lines) in OTHERS {
-        let cert = edited(rt.alloc(), front, piece, back)?;
-        let files = [("a", text.as_bytes()), ("c", cert.as_slice())];
-        for most in [1, 4096] {
-            let outside = sound(&files, most);
-            run_ends(&rt, rt.alloc(), CHECK, &outside, status, lines)?;
-        }
+        let edit = (*front, *piece, *back);
+        let alloc = rt.alloc();
+        edit_ends(&rt, alloc, text, &SECOND, edit, &[1, 4096], *status, lines)?;
     }
     Ok(())
 }

@@ -1,4 +1,5 @@
 // Two workers share the boxes of a script: what no clause can tell of a run.
+use crate::equals::{bytes_are, equal};
 use crate::runs::words_of;
 use command_runs::Status;
 use fx_edge::{Gate, Path, SureFolder, SureSink};
@@ -64,9 +65,10 @@ fn two_workers_share_boxes(rt: HostRuntime) -> Result<(), Fail> {
     };
     let words = words_of(alloc, &["prove", "a", "--workers", "2"])?;
     let ended = fx_run(&rt, alloc, &words, &mut folder, &mut out, &gate);
-    assert_eq!(rt; ended, Status::Answered);
-    assert_eq!(rt; out.bytes(), b"x * ( 1 - x ) in [0, 9b-5]\n".as_slice());
-    assert_eq!(rt; gate.entered.load(Ordering::SeqCst), 15);
-    assert_eq!(rt; gate.met.load(Ordering::SeqCst), 1);
+    equal(&rt, "the status", 0, ended, Status::Answered);
+    let line = b"x * ( 1 - x ) in [0, 9b-5]\n".as_slice();
+    bytes_are(&rt, "the line", 0, out.bytes(), line);
+    equal(&rt, "entered", 0, gate.entered.load(Ordering::SeqCst), 15);
+    equal(&rt, "met", 0, gate.met.load(Ordering::SeqCst), 1);
     Ok(())
 }

@@ -9,7 +9,7 @@ const PRODUCT: &[u8] = b"{ x in [1,2] /\\ y in [3,5] -> x * y in ? }\n";
 pub const USAGE: &str =
     "usage: fixprove prove SCRIPT [--cert FILE] [--rounds N] [--depth N] [--boxes N] [--workers N] | check SCRIPT CERT | gen N | upgrade CERT NEW | fix PROGRAM SCRIPT | at SCRIPT POINT | trim SCRIPT CERT NEW | batch LIST [--rounds N] [--depth N] [--boxes N] [--workers N]\n";
 
-const WRONG: [&[&str]; 30] = [
+const WRONG: &[&[&str]] = &[
     &[],
     &["prove"],
     &["a"],
@@ -45,13 +45,13 @@ const WRONG: [&[&str]; 30] = [
 #[test]
 fn wrong_words_have_the_usage_line(rt: HostRuntime) -> Result<(), Fail> {
     for words in WRONG {
-        words_end(&rt, rt.alloc(), words, PRODUCT, Status::Usage, USAGE)?;
+        words_end(&rt, rt.alloc(), *words, PRODUCT, Status::Usage, USAGE)?;
     }
     Ok(())
 }
 
 // A name that isn't there has no bytes in a sure folder, and takes none; `-` is a name.
-const RIGHT: [(&[&str], Status, &str); 6] = [
+const RIGHT: &[(&[&str], Status, &str)] = &[
     (&["prove", "a"], Status::Answered, "x * y in [3, 5b1]\n"),
     (
         &["prove", "--rounds", "3", "a"],
@@ -71,7 +71,7 @@ const RIGHT: [(&[&str], Status, &str); 6] = [
 #[test]
 fn right_words_name_a_script(rt: HostRuntime) -> Result<(), Fail> {
     for (words, status, line) in RIGHT {
-        words_end(&rt, rt.alloc(), words, PRODUCT, status, line)?;
+        words_end(&rt, rt.alloc(), *words, PRODUCT, *status, line)?;
     }
     Ok(())
 }

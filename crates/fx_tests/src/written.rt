@@ -1,7 +1,8 @@
 // Certificates that `prove` writes to `c`. What is written is judged by `check`. Expected lines
 // were worked out by hand, or by a plain program of the definitions.
+use crate::equals::{bytes_are, equal, holds};
 use crate::made_files::{PRODUCT, SECOND};
-use crate::runs::{Ended, Outside, run_ends, run_on, sound};
+use crate::runs::{Ended, Outside, check_ends, run_left, run_on, sound};
 use crate::words::USAGE;
 use command_runs::Status;
 use std::alloc::Global;
@@ -37,13 +38,13 @@ fn ends_with(
     printed: &str,
     cert: &[u8],
 ) -> Result<(), Fail> {
-    let ended = run_ends(rt, alloc, words, outside, status, printed)?;
-    assert_eq!(rt; cert_of(rt, &ended), cert, "{}", printed);
+    let ended = run_left(rt, alloc, words, outside, status, printed)?;
+    bytes_are(rt, printed, 0, cert_of(rt, &ended), cert);
     Ok(())
 }
 
 // Words, a script, and the lines, which a check of what was written has too.
-const ANSWERED: [(&[&str], &str, &str); 17] = [
+const ANSWERED: &[(&[&str], &str, &str)] = &[
     (WRITE, HALVED, HALVED_LINE),
     (
         WRITE,
@@ -130,17 +131,25 @@ const ANSWERED: [(&[&str], &str, &str); 17] = [
     ),
 ];
 
-// The words that end with an answer, and then a check of what they wrote.
+// The words end with an answer, and so does a check of what they wrote.
+fn is_accepted(
+    rt: &(impl Abort + Threads + Wait + Sync),
+    alloc: Global,
+    words: &[&str],
+    text: &str,
+    lines: &str,
+) -> Result<(), Fail> {
+    let files = [("a", text.as_bytes()), ("c", OLD)];
+    let before = sound(&files, 4096);
+    let written = run_left(rt, alloc, words, &before, Status::Answered, lines)?;
+    let cert = cert_of(rt, &written);
+    check_ends(rt, alloc, text, cert, &[4096], Status::Answered, lines)
+}
+
 #[test]
 fn what_is_written_is_accepted(rt: HostRuntime) -> Result<(), Fail> {
     for (words, text, lines) in ANSWERED {
-        let files = [("a", text.as_bytes()), ("c", OLD)];
-        let before = sound(&files, 4096);
-        let written = run_ends(&rt, rt.alloc(), words, &before, Status::Answered, lines)?;
-        let cert = cert_of(&rt, &written);
-        let files = [("a", text.as_bytes()), ("c", cert)];
-        let after = sound(&files, 4096);
-        run_ends(&rt, rt.alloc(), CHECK, &after, Status::Answered, lines)?;
+        is_accepted(&rt, rt.alloc(), *words, text, lines)?;
     }
     Ok(())
 }
@@ -162,7 +171,7 @@ fn no_unused_step_of_a_leaf_is_written(rt: HostRuntime) -> Result<(), Fail> {
 }
 
 // How many workers there are, and the most bytes that a call moves.
-const SAME: [(&[&str], usize); 6] = [
+const SAME: &[(&[&str], usize)] = &[
     (&["prove", "a", "--cert", "c", "--workers", "1"], 4096),
     (&["prove", "a", "--cert", "c", "--workers", "2"], 4096),
     (&["prove", "a", "--cert", "c", "--workers", "16"], 4096),
@@ -175,26 +184,35 @@ const SAME: [(&[&str], usize); 6] = [
 // a run would.
 const QUARTERED: &str = "{ x in [0,1] -> x * (1 - x) in ? } $ x in 4;";
 
+// The words over a script and a certificate end with an answer, and leave this certificate.
+fn is_same(
+    rt: &(impl Abort + Threads + Wait + Sync),
+    alloc: Global,
+    words: &[&str],
+    most: usize,
+    text: &str,
+    before: &[u8],
+    cert: &[u8],
+) -> Result<(), Fail> {
+    let files = [("a", text.as_bytes()), ("c", before)];
+    let (outside, answered) = (sound(&files, most), Status::Answered);
+    ends_with(rt, alloc, words, &outside, answered, HALVED_LINE, cert)
+}
+
+fn halved_cert(rt: &(impl Abort + Threads + Wait + Sync), alloc: Global) -> Result<Vec<u8>, Fail> {
+    let files = [("a", HALVED.as_bytes()), ("c", OLD)];
+    let written = run_on(rt, alloc, WRITE, &sound(&files, 4096))?;
+    Ok(cert_of(rt, &written).to_vec(alloc)?)
+}
+
 #[test]
 fn neither_workers_nor_pieces_change_a_byte(rt: HostRuntime) -> Result<(), Fail> {
-    let old = [("a", HALVED.as_bytes()), ("c", OLD)];
-    let written = run_on(&rt, rt.alloc(), WRITE, &sound(&old, 4096))?;
-    let cert = cert_of(&rt, &written);
-    let own = [("a", HALVED.as_bytes()), ("c", cert)];
-    let other = [("a", QUARTERED.as_bytes()), ("c", cert)];
+    let alloc = rt.alloc();
+    let cert = halved_cert(&rt, alloc)?;
     for (words, most) in SAME {
-        for (words, files) in [(words, &old), (CHECK, &own), (CHECK, &other)] {
-            let outside = sound(files, most);
-            ends_with(
-                &rt,
-                rt.alloc(),
-                words,
-                &outside,
-                Status::Answered,
-                HALVED_LINE,
-                cert,
-            )?;
-        }
+        is_same(&rt, alloc, *words, *most, HALVED, OLD, &cert)?;
+        is_same(&rt, alloc, CHECK, *most, HALVED, &cert, &cert)?;
+        is_same(&rt, alloc, CHECK, *most, QUARTERED, &cert, &cert)?;
     }
     Ok(())
 }
@@ -202,7 +220,7 @@ fn neither_workers_nor_pieces_change_a_byte(rt: HostRuntime) -> Result<(), Fail>
 // Runs that write nothing: of a script that is refused, that isn't there, that stays unproved, that
 // has too many boxes; by words that name one file as script and certificate; and of a certificate
 // whose name isn't there.
-const UNWRITTEN: [(&[&str], &str, Status, &str); 9] = [
+const UNWRITTEN: &[(&[&str], &str, Status, &str)] = &[
     (WRITE, "!", Status::Script, "script: BadToken at 0\n"),
     (
         &["prove", "b", "--cert", "c"],
@@ -249,90 +267,137 @@ const UNWRITTEN: [(&[&str], &str, Status, &str); 9] = [
     ),
 ];
 
+fn is_kept(
+    rt: &(impl Abort + Threads + Wait + Sync),
+    alloc: Global,
+    words: &[&str],
+    text: &str,
+    status: Status,
+    printed: &str,
+) -> Result<(), Fail> {
+    let files = [("a", text.as_bytes()), ("c", OLD)];
+    ends_with(rt, alloc, words, &sound(&files, 4096), status, printed, OLD)
+}
+
 #[test]
 fn a_file_is_kept_where_nothing_is_written(rt: HostRuntime) -> Result<(), Fail> {
     for (words, text, status, printed) in UNWRITTEN {
-        let files = [("a", text.as_bytes()), ("c", OLD)];
-        let outside = sound(&files, 4096);
-        ends_with(&rt, rt.alloc(), words, &outside, status, printed, OLD)?;
+        is_kept(&rt, rt.alloc(), *words, text, *status, printed)?;
     }
     Ok(())
 }
 
 // The folder's first calls read the script to its end and make the file new.
-const FIRST: [(u64, Status, &str); 3] = [
+const FIRST: &[(u64, Status, &str)] = &[
     (1, Status::ReadFault, "read fault: a\n"),
     (2, Status::ReadFault, "read fault: a\n"),
     (3, Status::WriteFault, ""),
 ];
 
+// The certificate, which a run writes in pieces of 64 bytes at most.
+fn whole_cert(
+    rt: &(impl Abort + Threads + Wait + Sync),
+    alloc: Global,
+    whole: &Outside<'_>,
+) -> Result<Vec<u8>, Fail> {
+    let written = run_left(rt, alloc, WRITE, whole, Status::Answered, HALVED_LINE)?;
+    Ok(cert_of(rt, &written).to_vec(alloc)?)
+}
+
+// Too little room leaves a front.
+fn room_fails(
+    rt: &(impl Abort + Threads + Wait + Sync),
+    alloc: Global,
+    whole: &Outside<'_>,
+    cert: &[u8],
+) -> Result<(), Fail> {
+    let outside = Outside {
+        room: 100,
+        ..*whole
+    };
+    let front = cert.get(..100).unwrap_or(&[]);
+    ends_with(rt, alloc, WRITE, &outside, Status::WriteFault, "", front)
+}
+
+// Puts of seven bytes, behind which the certificate is whole.
+fn put_fails(
+    rt: &(impl Abort + Threads + Wait + Sync),
+    alloc: Global,
+    whole: &Outside<'_>,
+    cert: &[u8],
+    number: usize,
+) -> Result<(), Fail> {
+    let failing = [number as u64];
+    let outside = Outside {
+        failing_puts: &failing,
+        most: 7,
+        ..*whole
+    };
+    let done = 7 * number.saturating_sub(1).min(100);
+    let front = HALVED_LINE.get(..done).unwrap_or("");
+    ends_with(rt, alloc, WRITE, &outside, Status::WriteFault, front, cert)
+}
+
+// A call that fails before the certificate is written.
+fn first_fails(
+    rt: &(impl Abort + Threads + Wait + Sync),
+    alloc: Global,
+    whole: &Outside<'_>,
+    number: u64,
+    status: Status,
+    printed: &str,
+) -> Result<(), Fail> {
+    let failing = [number];
+    let outside = Outside {
+        failing_calls: &failing,
+        ..*whole
+    };
+    ends_with(rt, alloc, WRITE, &outside, status, printed, OLD)
+}
+
+// A call that writes the certificate fails, and leaves a front; or no call does, which is answered.
+fn append_fails(
+    rt: &(impl Abort + Threads + Wait + Sync),
+    alloc: Global,
+    whole: &Outside<'_>,
+    cert: &[u8],
+    number: u64,
+) -> Result<bool, Fail> {
+    let failing = [number];
+    let outside = Outside {
+        failing_calls: &failing,
+        ..*whole
+    };
+    let ended = run_on(rt, alloc, WRITE, &outside)?;
+    let left = cert_of(rt, &ended);
+    if ended.status == Status::Answered {
+        bytes_are(rt, "an append", number, left, cert);
+        return Ok(false);
+    }
+    equal(rt, "an append", number, ended.status, Status::WriteFault);
+    bytes_are(rt, "an append", number, ended.out.bytes(), &[]);
+    holds(rt, "an append", number, cert.starts_with(left));
+    Ok(true)
+}
+
 #[test]
 fn a_fault_leaves_a_front(rt: HostRuntime) -> Result<(), Fail> {
+    let alloc = rt.alloc();
     let files = [("a", HALVED.as_bytes()), ("c", OLD)];
     let whole = sound(&files, 64);
-    let written = run_ends(
-        &rt,
-        rt.alloc(),
-        WRITE,
-        &whole,
-        Status::Answered,
-        HALVED_LINE,
-    )?;
-    let cert = cert_of(&rt, &written);
-    // too little room
-    let outside = Outside { room: 100, ..whole };
-    let front = cert.get(..100).unwrap_or(&[]);
-    ends_with(
-        &rt,
-        rt.alloc(),
-        WRITE,
-        &outside,
-        Status::WriteFault,
-        "",
-        front,
-    )?;
-    // puts of seven bytes, behind which the certificate is whole
+    let cert = whole_cert(&rt, alloc, &whole)?;
+    room_fails(&rt, alloc, &whole, &cert)?;
     for number in 1..5usize {
-        let failing = [number as u64];
-        let outside = Outside {
-            failing_puts: &failing,
-            most: 7,
-            ..whole
-        };
-        let front = HALVED_LINE.get(..7 * (number - 1)).unwrap_or("");
-        ends_with(
-            &rt,
-            rt.alloc(),
-            WRITE,
-            &outside,
-            Status::WriteFault,
-            front,
-            cert,
-        )?;
+        put_fails(&rt, alloc, &whole, &cert, number)?;
     }
     for (number, status, printed) in FIRST {
-        let failing = [number];
-        let outside = Outside {
-            failing_calls: &failing,
-            ..whole
-        };
-        ends_with(&rt, rt.alloc(), WRITE, &outside, status, printed, OLD)?;
+        first_fails(&rt, alloc, &whole, *number, *status, printed)?;
     }
     // appends of 64 bytes at most, until a run meets no fault
     for number in 4..4000u64 {
-        let failing = [number];
-        let outside = Outside {
-            failing_calls: &failing,
-            ..whole
-        };
-        let ended = run_on(&rt, rt.alloc(), WRITE, &outside)?;
-        if ended.status == Status::Answered {
-            assert_eq!(rt; cert_of(&rt, &ended), cert);
+        if !append_fails(&rt, alloc, &whole, &cert, number)? {
             return Ok(());
         }
-        assert_eq!(rt; ended.status, Status::WriteFault, "call {number}");
-        assert_eq!(rt; ended.out.bytes(), b"".as_slice(), "call {number}");
-        assert!(rt; cert.starts_with(cert_of(&rt, &ended)), "call {number}");
     }
     panic!(rt; "each run met a fault")
 }

@@ -2,6 +2,8 @@
 #![tactic(auto)]
 
 #[cfg(test)]
+mod equals;
+#[cfg(test)]
 mod of_dyadic;
 #[cfg(test)]
 mod of_exact_fractions;

@@ -1,10 +1,18 @@
 // Each public call once, at values that were worked out by hand.
+use crate::equals::{equal, holds};
 use dyadic::{
     Dyadic, End, Points, add_down, add_up, div_down, div_up, greater, halve_between, lesser,
     mul_down, mul_up, part_down, ratio_down, ratio_up,
 };
+use std::process::Abort;
 
 const TOP: i64 = 1152921504606846975;
+
+fn ends_are(rt: &impl Abort, rows: &[(&str, End, End)]) {
+    for (name, found, wanted) in rows {
+        assert_eq!(rt; *found, *wanted, "{name}");
+    }
+}
 
 #[test]
 fn answers_the_rows(rt: HostRuntime) {
@@ -68,9 +76,7 @@ fn answers_the_rows(rt: HostRuntime) {
         ("lesser", lesser(End::Low, End::At(one)), End::Low),
         ("greater", greater(at(-3, 0), End::At(one)), End::At(one)),
     ];
-    for (name, found, wanted) in ends {
-        assert_eq!(rt; found, wanted, "{name}");
-    }
+    ends_are(&rt, &ends);
 }
 
 fn halved(a: Dyadic, b: Dyadic) -> Option<Dyadic> {
@@ -89,20 +95,52 @@ fn a_third(a: Dyadic, b: Dyadic) -> Option<Dyadic> {
     }
 }
 
+fn try_halved(rt: &impl Abort, rows: &[(Dyadic, Dyadic, Option<Dyadic>)]) {
+    for (a, b, wanted) in rows {
+        assert_eq!(rt; halved(*a, *b), *wanted, "{a} to {b}");
+    }
+}
+
+fn in_order(rt: &impl Abort, eight: Dyadic, one: Dyadic) {
+    holds(
+        rt,
+        "minus eight and one",
+        eight < one && eight.is_at_most(one) && eight.is_below(one) && !eight.is_same(one),
+    );
+    holds(rt, "itself", End::High.is_at_most(End::High));
+    holds(
+        rt,
+        "signs",
+        one.is_from_zero() && !one.is_up_to_zero() && End::At(eight).is_up_to_zero(),
+    );
+    holds(
+        rt,
+        "signs of ends",
+        !End::Low.is_from_zero() && End::At(Dyadic::zero()).is_from_zero(),
+    );
+}
+
+fn are_points(rt: &impl Abort, eight: Dyadic, one: Dyadic) {
+    let first = Points::new().with_last(eight).expect(rt, "room");
+    let points = first.with_last(one).expect(rt, "room");
+    points.rising();
+    assert_eq!(rt; points.len(), 2);
+    equal(rt, "the last", points.point(1), one);
+    holds(rt, "no more", points.with_last(one).is_none());
+}
+
 #[test]
 fn keeps_numbers_in_order(rt: HostRuntime) {
     let number = |m: i64, e: i32| Dyadic::new(m, e).expect(&rt, "a grid number");
     let one = Dyadic::one();
     let eight = number(-8, 3);
-    for (m, e) in [(1, 572), (3, 571), (1, -513)] {
+    for &(m, e) in &[(1, 572), (3, 571), (1, -513)] {
         assert!(rt; Dyadic::new(m, e).is_none(), "{m} at {e}");
     }
-    assert_eq!(rt; (eight.mantissa(), eight.exponent()), (-1, 6));
-    assert_eq!(rt; eight.neg(), number(64, 0));
-    assert!(rt; eight < one && eight.is_at_most(one) && eight.is_below(one) && !eight.is_same(one));
-    assert!(rt; End::High.is_at_most(End::High));
-    assert!(rt; one.is_from_zero() && !one.is_up_to_zero() && End::At(eight).is_up_to_zero());
-    assert!(rt; !End::Low.is_from_zero() && End::At(Dyadic::zero()).is_from_zero());
+    let parts = (eight.mantissa(), eight.exponent());
+    equal(&rt, "parts", parts, (-1, 6));
+    equal(&rt, "negation", eight.neg(), number(64, 0));
+    in_order(&rt, eight, one);
     let least = number(1, -512);
     let halves = [
         (one, number(2, 0), Some(number(3, -1))),
@@ -111,20 +149,8 @@ fn keeps_numbers_in_order(rt: HostRuntime) {
         (Dyadic::zero(), least, None),
         (least, number(1, -511), None),
     ];
-    for (a, b, wanted) in halves {
-        assert_eq!(rt; halved(a, b), wanted, "{a} to {b}");
-    }
-    assert_eq!(rt;
-        a_third(Dyadic::zero(), one),
-        Some(number(384307168202282325, -60))
-    );
-    let points = Points::new()
-        .with_last(eight)
-        .expect(&rt, "room")
-        .with_last(one)
-        .expect(&rt, "room");
-    points.rising();
-    assert_eq!(rt; points.len(), 2);
-    assert_eq!(rt; points.point(1), one);
-    assert!(rt; points.with_last(one).is_none());
+    try_halved(&rt, &halves);
+    let third = a_third(Dyadic::zero(), one);
+    equal(&rt, "a third", third, Some(number(384307168202282325, -60)));
+    are_points(&rt, eight, one);
 }

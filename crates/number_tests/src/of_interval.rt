@@ -1,4 +1,5 @@
 // Each public call, at values that were worked out by hand.
+use crate::equals::holds;
 use dyadic::{Dyadic, End};
 use interval::{Interval, enclose, one_result};
 use literal::read;
@@ -23,24 +24,36 @@ fn range(rt: &impl Abort, lo: i64, hi: i64) -> Interval {
     Interval::new(end(rt, lo), end(rt, hi)).expect(rt, "ends in order")
 }
 
+const MADE: &[(i64, i64, bool)] = &[
+    (1, 2, true),
+    (2, 2, true),
+    (2, 1, false),
+    (LOW, HIGH, true),
+    (LOW, LOW, false),
+    (HIGH, HIGH, false),
+    (HIGH, 3, false),
+    (3, LOW, false),
+];
+
+fn try_made(rt: &impl Abort, lo: End, hi: End, made: bool) {
+    let found = Interval::new(lo, hi);
+    assert_eq!(rt; found.is_some(), made, "{lo:?} {hi:?}");
+    if let Some(found) = found {
+        assert_eq!(rt; found.lo(), lo);
+        assert_eq!(rt; found.hi(), hi);
+    }
+}
+
 #[test]
 fn makes_intervals_of_ordered_ends(rt: HostRuntime) {
-    for (lo, hi, made) in [
-        (1, 2, true),
-        (2, 2, true),
-        (2, 1, false),
-        (LOW, HIGH, true),
-        (LOW, LOW, false),
-        (HIGH, HIGH, false),
-        (HIGH, 3, false),
-        (3, LOW, false),
-    ] {
-        let found = Interval::new(end(&rt, lo), end(&rt, hi));
-        assert_eq!(rt; found.is_some(), made, "{lo} {hi}");
-        if let Some(found) = found {
-            assert_eq!(rt; found.lo(), end(&rt, lo));
-            assert_eq!(rt; found.hi(), end(&rt, hi));
-        }
+    for (lo, hi, made) in MADE {
+        try_made(&rt, end(&rt, *lo), end(&rt, *hi), *made);
+    }
+}
+
+fn equal(rt: &impl Abort, rows: &[(&str, Interval, Interval)]) {
+    for (name, found, wanted) in rows {
+        assert_eq!(rt; *found, *wanted, "{name}");
     }
 }
 
@@ -80,66 +93,94 @@ fn answers_the_rows(rt: HostRuntime) {
         ("square, infinite", of(2, HIGH).square(), of(4, HIGH)),
         ("hull", of(-2, -1).hull(of(3, HIGH)), of(-2, HIGH)),
     ];
-    for (name, found, wanted) in rows {
-        assert_eq!(rt; found, wanted, "{name}");
-    }
+    equal(&rt, &rows);
 }
 
 #[test]
 fn compares_intervals(rt: HostRuntime) {
     let of = |lo: i64, hi: i64| range(&rt, lo, hi);
     let three = Dyadic::new(3, 0).expect(&rt, "three");
-    assert!(rt; of(1, 3).inside(of(1, HIGH)));
-    assert!(rt; !of(1, 3).inside(of(2, 5)));
-    assert!(rt; of(LOW, 3).has(three));
-    assert!(rt; Interval::zero().has_zero() && !Interval::zero().has_one());
-    assert!(rt; Interval::one().has_one() && !Interval::one().has_zero());
+    holds(&rt, "inside", of(1, 3).inside(of(1, HIGH)));
+    holds(&rt, "not inside", !of(1, 3).inside(of(2, 5)));
+    holds(&rt, "has three", of(LOW, 3).has(three));
+    let (zero, one) = (Interval::zero(), Interval::one());
+    holds(&rt, "zero", zero.has_zero() && !zero.has_one());
+    holds(&rt, "one", one.has_one() && !one.has_zero());
     let signs = |i: Interval| (i.is_positive(), i.is_not_negative(), i.is_not_positive());
-    assert!(rt; signs(Interval::one()) == (true, true, false));
-    assert!(rt; signs(of(-1, 0)) == (false, false, true));
-    assert!(rt; !of(4, HIGH).has(three));
-    assert!(rt; of(1, 3).meet(of(3, 5)) == Some(of(3, 3)));
-    assert!(rt; of(1, 2).meet(of(3, 5)).is_none());
+    holds(&rt, "positive", signs(one) == (true, true, false));
+    holds(
+        &rt,
+        "not positive",
+        signs(of(-1, 0)) == (false, false, true),
+    );
+    holds(&rt, "not three", !of(4, HIGH).has(three));
+    holds(&rt, "meet", of(1, 3).meet(of(3, 5)) == Some(of(3, 3)));
+    holds(&rt, "no meet", of(1, 2).meet(of(3, 5)).is_none());
+}
+
+// Whole ends.
+type Whole = (i64, i64);
+
+fn whole(rt: &impl Abort, ends: Whole) -> Interval {
+    range(rt, ends.0, ends.1)
+}
+
+const QUOTIENTS: &[(Whole, Whole, Option<Whole>)] = &[
+    ((4, 8), (1, 2), Some((2, 8))),
+    ((-4, 8), (1, 2), Some((-4, 8))),
+    ((4, 8), (-2, -1), Some((-8, -2))),
+    ((-8, -4), (-2, -1), Some((2, 8))),
+    ((4, 8), (0, 1), None),
+    ((1, 1), (0, 2), None),
+    ((4, 8), (-1, 0), None),
+    ((0, 0), (LOW, HIGH), None),
+    ((4, 8), (1, HIGH), Some((LOW, HIGH))),
+];
+
+fn try_quotient(rt: &impl Abort, x: Interval, y: Interval, wanted: Option<Whole>) {
+    let found = x.div(y);
+    match wanted {
+        Some(wanted) => assert!(rt; found == Some(whole(rt, wanted))),
+        None => assert!(rt; found.is_none()),
+    }
 }
 
 #[test]
 fn quotients_have_no_divisor_with_zero(rt: HostRuntime) {
-    let of = |lo: i64, hi: i64| range(&rt, lo, hi);
-    for (x, y, wanted) in [
-        (of(4, 8), of(1, 2), Some(of(2, 8))),
-        (of(-4, 8), of(1, 2), Some(of(-4, 8))),
-        (of(4, 8), of(-2, -1), Some(of(-8, -2))),
-        (of(-8, -4), of(-2, -1), Some(of(2, 8))),
-        (of(4, 8), of(0, 1), None),
-        (of(1, 1), of(0, 2), None),
-        (of(4, 8), of(-1, 0), None),
-        (of(0, 0), of(LOW, HIGH), None),
-        (of(4, 8), of(1, HIGH), Some(of(LOW, HIGH))),
-    ] {
-        assert!(rt; x.div(y) == wanted);
+    for (x, y, wanted) in QUOTIENTS {
+        try_quotient(&rt, whole(&rt, *x), whole(&rt, *y), *wanted);
+    }
+}
+
+const SHRUNK: &[(&str, Whole, i32, Option<Whole>)] = &[
+    ("rising", (1, 7), 1, Some((2, 6))),
+    ("falling", (-7, -1), 1, Some((-6, -2))),
+    ("to 0", (-3, 5), 3, Some((0, 0))),
+    ("multiples stay", (4, 8), 2, Some((4, 8))),
+    ("one stays", (3, 3), 0, Some((3, 3))),
+    ("none", (1, 7), 3, None),
+    ("one is lost", (5, 5), 1, None),
+    ("open below", (LOW, 5), 2, Some((LOW, 4))),
+    ("open above", (-5, HIGH), 2, Some((-4, HIGH))),
+    ("whole line", (LOW, HIGH), 512, Some((LOW, HIGH))),
+    ("far to 0", (-7, 7), 512, Some((0, 0))),
+    ("far to none", (1, 7), 512, None),
+    ("small powers", (-1, 7), -1024, Some((-1, 7))),
+];
+
+fn try_shrunk(rt: &impl Abort, name: &str, x: Interval, k: i32, wanted: Option<Whole>) {
+    assert!(rt; k >= -1024 && k <= 512, "{name}");
+    let found = x.shrink(k);
+    match wanted {
+        Some(wanted) => assert!(rt; found == Some(whole(rt, wanted)), "{name}"),
+        None => assert!(rt; found.is_none(), "{name}"),
     }
 }
 
 #[test]
 fn shrinks_to_multiples(rt: HostRuntime) {
-    let of = |lo: i64, hi: i64| range(&rt, lo, hi);
-    let rows = [
-        ("rising", of(1, 7).shrink(1), Some(of(2, 6))),
-        ("falling", of(-7, -1).shrink(1), Some(of(-6, -2))),
-        ("to 0", of(-3, 5).shrink(3), Some(of(0, 0))),
-        ("multiples stay", of(4, 8).shrink(2), Some(of(4, 8))),
-        ("one stays", of(3, 3).shrink(0), Some(of(3, 3))),
-        ("none", of(1, 7).shrink(3), None),
-        ("one is lost", of(5, 5).shrink(1), None),
-        ("open below", of(LOW, 5).shrink(2), Some(of(LOW, 4))),
-        ("open above", of(-5, HIGH).shrink(2), Some(of(-4, HIGH))),
-        ("whole line", of(LOW, HIGH).shrink(512), Some(of(LOW, HIGH))),
-        ("far to 0", of(-7, 7).shrink(512), Some(of(0, 0))),
-        ("far to none", of(1, 7).shrink(512), None),
-        ("small powers", of(-1, 7).shrink(-1024), Some(of(-1, 7))),
-    ];
-    for (name, found, wanted) in rows {
-        assert!(rt; found == wanted, "{name}");
+    for (name, x, k, wanted) in SHRUNK {
+        try_shrunk(&rt, name, whole(&rt, *x), *k, *wanted);
     }
 }
 
@@ -198,7 +239,5 @@ fn encloses_literals(rt: HostRuntime) {
             of(near(1152921504606846975, 512), near(1, 600)),
         ),
     ];
-    for (name, found, wanted) in rows {
-        assert_eq!(rt; found, wanted, "{name}");
-    }
+    equal(&rt, &rows);
 }

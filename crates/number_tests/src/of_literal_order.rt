@@ -20,52 +20,52 @@ fn below(a: &str, a_negative: bool, b: &str, b_negative: bool) -> Result<bool, L
     Ok(first.is_below(second))
 }
 
-#[test]
-fn literals_are_compared_by_their_values(rt: HostRuntime) -> Result<(), Fail> {
-    let rows = [
-        ("0", "1", true),
-        ("1", "0", false),
-        ("0", "0", false),
-        ("0.5", "1b-1", false),
-        ("1b-1", "0.50", false),
-        ("0.1", "0x0.2p0", true),
-        ("0x0.1999999999999999999999999p0", "0.1", true),
-        ("0.1", "0x0.199999999999999999999999ap0", true),
-        ("1e8", "99999999.9", false),
-        ("999999999999999999999999999999e8", "1b512", true),
-        ("1b512", "999999999999999999999999999999e8", false),
-        ("1b-512", "1e-30", true),
-        ("1e-30", "1b-99", true),
-        ("1b-100", "1e-30", true),
-        ("1e-30", "1b-100", false),
-        ("0", "1b-512", true),
-        ("1b-512", "0", false),
-        ("3b-1", "1b0", false),
-        ("999999999999999999999999999999b512", "1b511", false),
-    ];
-    for (a, b, want) in rows {
-        assert_eq!(rt; below(a, false, b, false), Ok(want), "{a} {b}");
-        assert_eq!(rt; below(b, true, a, true), Ok(want), "-{b} -{a}");
-    }
-    Ok(())
-}
+const BY_VALUES: &[(&str, &str, bool)] = &[
+    ("0", "1", true),
+    ("1", "0", false),
+    ("0", "0", false),
+    ("0.5", "1b-1", false),
+    ("1b-1", "0.50", false),
+    ("0.1", "0x0.2p0", true),
+    ("0x0.1999999999999999999999999p0", "0.1", true),
+    ("0.1", "0x0.199999999999999999999999ap0", true),
+    ("1e8", "99999999.9", false),
+    ("999999999999999999999999999999e8", "1b512", true),
+    ("1b512", "999999999999999999999999999999e8", false),
+    ("1b-512", "1e-30", true),
+    ("1e-30", "1b-99", true),
+    ("1b-100", "1e-30", true),
+    ("1e-30", "1b-100", false),
+    ("0", "1b-512", true),
+    ("1b-512", "0", false),
+    ("3b-1", "1b0", false),
+    ("999999999999999999999999999999b512", "1b511", false),
+];
 
 #[test]
-fn literals_are_compared_with_their_signs(rt: HostRuntime) -> Result<(), Fail> {
-    let rows = [
-        ("1", true, "1", false, true),
-        ("1", false, "1", true, false),
-        ("0", true, "0", false, false),
-        ("0", true, "1b-512", false, true),
-        ("1b-512", true, "0", false, true),
-        ("0", false, "0", true, false),
-        ("1", true, "0.5", true, true),
-        ("0.5", true, "1", true, false),
-    ];
-    for (a, a_negative, b, b_negative, want) in rows {
-        assert_eq!(rt; below(a, a_negative, b, b_negative), Ok(want), "{a} {b}");
+fn literals_are_compared_by_their_values(rt: HostRuntime) {
+    for (a, b, want) in BY_VALUES {
+        assert_eq!(rt; below(a, false, b, false), Ok(*want), "{a} {b}");
+        assert_eq!(rt; below(b, true, a, true), Ok(*want), "-{b} -{a}");
     }
-    Ok(())
+}
+
+const WITH_SIGNS: &[(&str, bool, &str, bool, bool)] = &[
+    ("1", true, "1", false, true),
+    ("1", false, "1", true, false),
+    ("0", true, "0", false, false),
+    ("0", true, "1b-512", false, true),
+    ("1b-512", true, "0", false, true),
+    ("0", false, "0", true, false),
+    ("1", true, "0.5", true, true),
+    ("0.5", true, "1", true, false),
+];
+
+#[test]
+fn literals_are_compared_with_their_signs(rt: HostRuntime) {
+    for (a, a_negative, b, b_negative, want) in WITH_SIGNS {
+        assert_eq!(rt; below(a, *a_negative, b, *b_negative), Ok(*want), "{a} {b}");
+    }
 }
 
 #[test]

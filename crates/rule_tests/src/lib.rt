@@ -2,6 +2,8 @@
 #![tactic(auto)]
 
 #[cfg(test)]
+mod conclusions;
+#[cfg(test)]
 mod of_poly_normal;
 #[cfg(test)]
 mod of_rewrite_rules;

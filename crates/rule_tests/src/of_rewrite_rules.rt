@@ -1,4 +1,5 @@
 // Each rule, at values that were worked out by hand.
+use crate::conclusions::concludes;
 use dyadic::{Dyadic, End};
 use expr_dag::Dag;
 use facts::{Fact, FixPlace, HintRow, Need, RelativeError, Size, Slot};
@@ -43,8 +44,7 @@ const CB: u16 = 19;
 // Ends from here on, on both sides, are infinite.
 const INF: i64 = 100;
 
-fn list(rt: &impl AllocGlobal) -> Result<Dag, Fail> {
-    let mut dag = Dag::new(rt.alloc());
+fn fill(dag: &mut Dag) -> Result<(), Fail> {
     let a = dag.add(Node::Var(0))?;
     let b = dag.add(Node::Var(1))?;
     let c = dag.add(Node::Var(2))?;
@@ -65,6 +65,12 @@ fn list(rt: &impl AllocGlobal) -> Result<Dag, Fail> {
     dag.add(Node::Sub(negation, other_negation))?;
     dag.add(Node::Sub(b, c))?;
     dag.add(Node::Sub(c, b))?;
+    Ok(())
+}
+
+fn list(rt: &impl AllocGlobal) -> Result<Dag, Fail> {
+    let mut dag = Dag::new(rt.alloc());
+    fill(&mut dag)?;
     Ok(dag)
 }
 
@@ -99,76 +105,122 @@ fn rule(dag: &Dag, number: u8, premises: &[Fact], target: Slot) -> Option<Fact> 
     }
 }
 
+// A rule, two bounds, an expression, and the ends of its bounds.
+type Row = (u8, Bound, Bound, u16, Option<(i64, i64)>);
+
+const DIFFERENCES_AND_SUMS: &[Row] = &[
+    (71, (AC, 1, 2), (BD, 3, 5), SUMS, Some((4, 7))),
+    (71, (BD, 3, 5), (AC, 1, 2), SUMS, None),
+    (71, (AC, 1, 2), (BD, 3, 5), DIFFERENCES, None),
+    (72, (AC, 1, 2), (BD, 3, 5), DIFFERENCES, Some((-4, -1))),
+    (72, (AC, 1, 2), (BD, 3, 5), 20, None),
+    (75, (AB, 1, 2), (BC, 3, INF), AC, Some((4, INF))),
+    (75, (AB, 1, 2), (CB, 3, 5), AC, None),
+    (75, (AC, 1, 2), (CB, 3, 5), AB, Some((4, 7))),
+    (76, (AB, 1, 2), (CB, 3, 5), AC, Some((-4, -1))),
+    (76, (AB, 1, 2), (BC, 3, 5), AC, None),
+    (77, (C, 1, 2), (AC, 3, 5), A, Some((4, 7))),
+    (77, (A, 1, 2), (AC, 3, 5), C, None),
+    (78, (A, 1, 2), (AC, 3, 5), C, Some((-4, -1))),
+    (78, (C, 1, 2), (AC, 3, 5), A, None),
+];
+
+fn wanted_on(rt: &impl Abort, on: u16, wanted: Option<(i64, i64)>) -> Option<Fact> {
+    match wanted {
+        Some((lo, hi)) => Some(bnd(rt, (on, lo, hi))),
+        None => None,
+    }
+}
+
+fn try_differences(rt: &impl Abort, dag: &Dag) {
+    for (number, first, second, x, wanted) in DIFFERENCES_AND_SUMS {
+        let premises = [bnd(rt, *first), bnd(rt, *second)];
+        let found = rule(dag, *number, &premises, on(*x));
+        concludes(rt, *number, on(*x), found, wanted_on(rt, *x, *wanted));
+    }
+}
+
 #[test]
 fn differences_are_those_of_the_rows(rt: HostRuntime) -> Result<(), Fail> {
     let dag = list(&rt)?;
-    let rows = [
-        (71, (AC, 1, 2), (BD, 3, 5), SUMS, Some((4, 7))),
-        (71, (BD, 3, 5), (AC, 1, 2), SUMS, None),
-        (71, (AC, 1, 2), (BD, 3, 5), DIFFERENCES, None),
-        (72, (AC, 1, 2), (BD, 3, 5), DIFFERENCES, Some((-4, -1))),
-        (72, (AC, 1, 2), (BD, 3, 5), 20, None),
-        (75, (AB, 1, 2), (BC, 3, INF), AC, Some((4, INF))),
-        (75, (AB, 1, 2), (CB, 3, 5), AC, None),
-        (75, (AC, 1, 2), (CB, 3, 5), AB, Some((4, 7))),
-        (76, (AB, 1, 2), (CB, 3, 5), AC, Some((-4, -1))),
-        (76, (AB, 1, 2), (BC, 3, 5), AC, None),
-        (77, (C, 1, 2), (AC, 3, 5), A, Some((4, 7))),
-        (77, (A, 1, 2), (AC, 3, 5), C, None),
-        (78, (A, 1, 2), (AC, 3, 5), C, Some((-4, -1))),
-        (78, (C, 1, 2), (AC, 3, 5), A, None),
-    ];
-    for (number, first, second, on, wanted) in rows {
-        let premises = [bnd(&rt, first), bnd(&rt, second)];
-        let found = rule(&dag, number, &premises, Slot::Bnd(ExprId(on)));
-        let wanted = wanted.map(|(lo, hi)| bnd(&rt, (on, lo, hi)));
-        assert!(rt; found == wanted, "rule {number} on {on}");
-    }
+    try_differences(&rt, &dag);
     Ok(())
+}
+
+fn on(x: u16) -> Slot {
+    Slot::Bnd(ExprId(x))
+}
+
+fn try_products(rt: &impl Abort, dag: &Dag) {
+    let given = [
+        bnd(rt, (A, 2, 3)),
+        bnd(rt, (BD, 1, 1)),
+        bnd(rt, (AC, -1, 1)),
+        bnd(rt, (D, 0, 4)),
+    ];
+    let target = on(PRODUCTS);
+    let wanted = Some(bnd(rt, (PRODUCTS, -2, 7)));
+    concludes(rt, 73, target, rule_73(dag, &given, target), wanted);
+    concludes(rt, 73, on(SUMS), rule_73(dag, &given, on(SUMS)), None);
+    let turned = [given[0], given[2], given[1], given[3]];
+    concludes(rt, 73, target, rule_73(dag, &turned, target), None);
+}
+
+fn try_negations(rt: &impl Abort, dag: &Dag) {
+    let one = [bnd(rt, (AC, 1, 2))];
+    let target = on(NEGATIONS);
+    let wanted = Some(bnd(rt, (NEGATIONS, -2, -1)));
+    concludes(rt, 74, target, rule_74(dag, &one, target), wanted);
+    concludes(rt, 74, on(SUMS), rule_74(dag, &one, on(SUMS)), None);
+}
+
+// The ends of the bounds of a, what isn't 0, the slot, and whether it is a contradiction.
+const NO_ZERO: &[(i64, i64, u16, Slot, bool)] = &[
+    (0, 0, A, Slot::Void, true),
+    (0, 0, B, Slot::Void, false),
+    (0, 1, A, Slot::Void, false),
+    (-1, 0, A, Slot::Void, false),
+    (0, 0, A, Slot::Bnd(ExprId(A)), false),
+];
+
+fn try_no_zero(rt: &impl Abort, dag: &Dag) {
+    for (lo, hi, other, target, is_void) in NO_ZERO {
+        let given = [bnd(rt, (A, *lo, *hi)), Fact::Nzr(ExprId(*other))];
+        let found = rule_91(dag, &given, *target);
+        let wanted = if *is_void { Some(Fact::Void) } else { None };
+        concludes(rt, 91, *target, found, wanted);
+    }
+}
+
+fn try_no_error(
+    rt: &impl Abort,
+    dag: &Dag,
+    error: Option<RelativeError>,
+    other: u16,
+    wanted: Option<Fact>,
+) {
+    let given = [
+        Fact::Rel(ExprId(A), ExprId(C), error),
+        Fact::Nzr(ExprId(other)),
+    ];
+    let found = rule_92(dag, &given, Slot::Void);
+    concludes(rt, 92, Slot::Void, found, wanted);
+}
+
+fn try_contradictions(rt: &impl Abort, dag: &Dag) {
+    try_no_zero(rt, dag);
+    let exact = RelativeError::new(Interval::zero());
+    try_no_error(rt, dag, None, C, Some(Fact::Void));
+    try_no_error(rt, dag, None, A, None);
+    try_no_error(rt, dag, exact, C, None);
 }
 
 #[test]
 fn products_negations_and_contradictions(rt: HostRuntime) -> Result<(), Fail> {
     let dag = list(&rt)?;
-    let given = [
-        bnd(&rt, (A, 2, 3)),
-        bnd(&rt, (BD, 1, 1)),
-        bnd(&rt, (AC, -1, 1)),
-        bnd(&rt, (D, 0, 4)),
-    ];
-    let on = |x: u16| Slot::Bnd(ExprId(x));
-    assert!(rt; rule_73(&dag, &given, on(PRODUCTS)) == Some(bnd(&rt, (PRODUCTS, -2, 7))));
-    assert!(rt; rule_73(&dag, &given, on(SUMS)).is_none());
-    let turned = [given[0], given[2], given[1], given[3]];
-    assert!(rt; rule_73(&dag, &turned, on(PRODUCTS)).is_none());
-    let one = [bnd(&rt, (AC, 1, 2))];
-    assert!(rt; rule_74(&dag, &one, on(NEGATIONS)) == Some(bnd(&rt, (NEGATIONS, -2, -1))));
-    assert!(rt; rule_74(&dag, &one, on(SUMS)).is_none());
-    for (lo, hi, other, target, wanted) in [
-        (0, 0, A, Slot::Void, Some(Fact::Void)),
-        (0, 0, B, Slot::Void, None),
-        (0, 1, A, Slot::Void, None),
-        (-1, 0, A, Slot::Void, None),
-        (0, 0, A, on(A), None),
-    ] {
-        let given = [bnd(&rt, (A, lo, hi)), Fact::Nzr(ExprId(other))];
-        assert!(rt;
-            rule_91(&dag, &given, target) == wanted,
-            "{lo} {hi} {other}"
-        );
-    }
-    let exact = RelativeError::new(Interval::zero());
-    for (error, other, wanted) in [
-        (None, C, Some(Fact::Void)),
-        (None, A, None),
-        (exact, C, None),
-    ] {
-        let given = [
-            Fact::Rel(ExprId(A), ExprId(C), error),
-            Fact::Nzr(ExprId(other)),
-        ];
-        assert!(rt; rule_92(&dag, &given, Slot::Void) == wanted, "{other}");
-    }
+    try_products(&rt, &dag);
+    try_negations(&rt, &dag);
+    try_contradictions(&rt, &dag);
     Ok(())
 }
 
@@ -188,72 +240,102 @@ fn hint(rt: &(impl AllocGlobal + Abort), apart: bool) -> Result<HintRow, Fail> {
     })
 }
 
+use Said::{Bounds, NoError, Nzr as nzr, Place, Sizes};
+
+// A fact on an expression: bounds from 1 to 2, multiples of 8, the size 1, no error of it over
+// itself, or that it isn't 0.
+#[derive(Clone, Copy)]
+enum Said {
+    Bounds(u16),
+    Place(u16),
+    Sizes(u16),
+    NoError(u16),
+    Nzr(u16),
+}
+
+fn place(rt: &impl Abort) -> FixPlace {
+    FixPlace::new(3).expect(rt, "a place")
+}
+
+fn size(rt: &impl Abort) -> Size {
+    Size::new(Interval::one()).expect(rt, "a size")
+}
+
+fn fact(rt: &impl Abort, said: Said) -> Fact {
+    match said {
+        Bounds(x) => bnd(rt, (x, 1, 2)),
+        Place(x) => Fact::Fix(ExprId(x), place(rt)),
+        Sizes(x) => Fact::Abs(ExprId(x), size(rt)),
+        NoError(x) => Fact::Rel(ExprId(x), ExprId(x), None),
+        nzr(x) => Fact::Nzr(ExprId(x)),
+    }
+}
+
+fn fact_of(rt: &impl Abort, said: Option<Said>) -> Option<Fact> {
+    match said {
+        Some(said) => Some(fact(rt, said)),
+        None => None,
+    }
+}
+
+fn target_of(first: Said) -> Slot {
+    match first {
+        Bounds(_) => Slot::Bnd(ExprId(A)),
+        Sizes(_) => Slot::Abs(ExprId(A)),
+        Place(_) => Slot::Fix(ExprId(A)),
+        _ => Slot::Nzr(ExprId(A)),
+    }
+}
+
+// Whether the constraints are strict, the first premise, a bound, the last premise, and what is
+// shown.
+const HINTS: &[(bool, Said, Bound, Said, Option<Said>)] = &[
+    (false, Bounds(B), (D, 1, 3), nzr(D), Some(Bounds(A))),
+    (false, Place(B), (D, 1, 3), nzr(D), Some(Place(A))),
+    (false, Sizes(B), (D, 1, 3), nzr(D), Some(Sizes(A))),
+    (false, nzr(B), (D, 1, 3), nzr(D), Some(nzr(A))),
+    (false, nzr(C), (D, 1, 3), nzr(D), None),
+    (false, NoError(B), (D, 1, 3), nzr(D), None),
+    (true, nzr(B), (D, 1, 3), nzr(D), None),
+    (true, nzr(B), (D, 2, 2), nzr(D), Some(nzr(A))),
+    (false, nzr(B), (D, 1, INF), nzr(D), None),
+    (false, nzr(B), (D, -INF, 3), nzr(D), None),
+    (false, nzr(B), (C, 1, 3), nzr(D), None),
+    (false, nzr(B), (D, 1, 3), nzr(C), None),
+];
+
+fn try_hint(
+    rt: &impl Abort,
+    dag: &Dag,
+    row: &HintRow,
+    premises: &[Fact; 5],
+    target: Slot,
+    wanted: Option<Fact>,
+) {
+    let found = rule_80(dag, row, premises, target);
+    concludes(rt, 80, target, found, wanted);
+    let cut = rule_80(dag, row, &premises[..4], target);
+    concludes(rt, 80, target, cut, None);
+    let void = rule_80(dag, row, premises, Slot::Void);
+    concludes(rt, 80, Slot::Void, void, None);
+}
+
+fn try_hints(rt: &impl Abort, dag: &Dag, strict: &HintRow, weak: &HintRow) {
+    for (apart, first, bound, last, wanted) in HINTS {
+        let row = if *apart { strict } else { weak };
+        let shown = bnd(rt, *bound);
+        let not_zero = fact(rt, nzr(C));
+        let premises = [fact(rt, *first), not_zero, shown, shown, fact(rt, *last)];
+        let wanted = fact_of(rt, *wanted);
+        try_hint(rt, dag, row, &premises, target_of(*first), wanted);
+    }
+}
+
 #[test]
 fn hints_are_used_where_all_is_shown(rt: HostRuntime) -> Result<(), Fail> {
     let dag = list(&rt)?;
-    let place = FixPlace::new(3).expect(&rt, "a place");
-    let size = Size::new(Interval::one()).expect(&rt, "a size");
-    let nzr = |x: u16| Fact::Nzr(ExprId(x));
-    let rows = [
-        (
-            false,
-            bnd(&rt, (B, 1, 2)),
-            (D, 1, 3),
-            nzr(D),
-            Some(bnd(&rt, (A, 1, 2))),
-        ),
-        (
-            false,
-            Fact::Fix(ExprId(B), place),
-            (D, 1, 3),
-            nzr(D),
-            Some(Fact::Fix(ExprId(A), place)),
-        ),
-        (
-            false,
-            Fact::Abs(ExprId(B), size),
-            (D, 1, 3),
-            nzr(D),
-            Some(Fact::Abs(ExprId(A), size)),
-        ),
-        (false, nzr(B), (D, 1, 3), nzr(D), Some(nzr(A))),
-        (false, nzr(C), (D, 1, 3), nzr(D), None),
-        (
-            false,
-            Fact::Rel(ExprId(B), ExprId(B), None),
-            (D, 1, 3),
-            nzr(D),
-            None,
-        ),
-        (true, nzr(B), (D, 1, 3), nzr(D), None),
-        (true, nzr(B), (D, 2, 2), nzr(D), Some(nzr(A))),
-        (false, nzr(B), (D, 1, INF), nzr(D), None),
-        (false, nzr(B), (D, -INF, 3), nzr(D), None),
-        (false, nzr(B), (C, 1, 3), nzr(D), None),
-        (false, nzr(B), (D, 1, 3), nzr(C), None),
-    ];
-    for (number, (apart, first, bound, last, wanted)) in rows.into_iter().enumerate() {
-        let row = hint(&rt, apart)?;
-        let shown = bnd(&rt, bound);
-        let premises = [first, nzr(C), shown, shown, last];
-        let target = match first {
-            Fact::Bnd(_, _) => Slot::Bnd(ExprId(A)),
-            Fact::Abs(_, _) => Slot::Abs(ExprId(A)),
-            Fact::Fix(_, _) => Slot::Fix(ExprId(A)),
-            _ => Slot::Nzr(ExprId(A)),
-        };
-        assert!(rt;
-            rule_80(&dag, &row, &premises, target) == wanted,
-            "row {number}"
-        );
-        assert!(rt;
-            rule_80(&dag, &row, &premises[..4], target).is_none(),
-            "row {number}, cut"
-        );
-        assert!(rt;
-            rule_80(&dag, &row, &premises, Slot::Void).is_none(),
-            "row {number}, VOID"
-        );
-    }
+    let strict = hint(&rt, true)?;
+    let weak = hint(&rt, false)?;
+    try_hints(&rt, &dag, &strict, &weak);
     Ok(())
 }

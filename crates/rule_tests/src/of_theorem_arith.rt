@@ -1,7 +1,8 @@
 // Each rule, at values that were worked out by hand.
+use crate::conclusions::concludes;
 use dyadic::{Dyadic, End};
 use expr_dag::Dag;
-use facts::{Fact, Size, Slot};
+use facts::{Fact, Size};
 use fx_model::{ExprId, Node};
 use interval::Interval;
 use literal::read;
@@ -43,6 +44,7 @@ const INF: i64 = 100;
 
 use Given::{No, One, Two};
 use Said::{A, B, N, Nil, Tenth, V};
+use Slot::{Abs as abs, Bnd as bnd};
 
 // A fact with whole ends, or nothing; `Tenth` is the bound of 0.1.
 #[derive(Clone, Copy)]
@@ -63,8 +65,23 @@ enum Given {
     Two(Said, Said),
 }
 
-fn list(rt: &impl AllocGlobal) -> Result<Dag, Fail> {
-    let mut dag = Dag::new(rt.alloc());
+// What a row asks for.
+#[derive(Clone, Copy)]
+enum Slot {
+    Bnd(u16),
+    Abs(u16),
+    Void,
+}
+
+fn slot_of(asked: Slot) -> facts::Slot {
+    match asked {
+        bnd(x) => facts::Slot::Bnd(ExprId(x)),
+        abs(x) => facts::Slot::Abs(ExprId(x)),
+        Slot::Void => facts::Slot::Void,
+    }
+}
+
+fn fill(dag: &mut Dag) -> Result<(), Fail> {
     let x = dag.add(Node::Var(0))?;
     let y = dag.add(Node::Var(1))?;
     dag.add(Node::Lit(read("0.1")?))?;
@@ -77,6 +94,12 @@ fn list(rt: &impl AllocGlobal) -> Result<Dag, Fail> {
     dag.add(Node::Sub(x, x))?;
     dag.add(Node::Mul(x, x))?;
     dag.add(Node::Div(x, x))?;
+    Ok(())
+}
+
+fn list(rt: &impl AllocGlobal) -> Result<Dag, Fail> {
+    let mut dag = Dag::new(rt.alloc());
+    fill(&mut dag)?;
     Ok(dag)
 }
 
@@ -123,7 +146,7 @@ fn fact(rt: &impl Abort, premise: Said) -> Fact {
     fact_of(rt, premise).expect(rt, "a premise")
 }
 
-fn rule(dag: &Dag, number: u8, premises: &[Fact], target: Slot) -> Option<Fact> {
+fn rule(dag: &Dag, number: u8, premises: &[Fact], target: facts::Slot) -> Option<Fact> {
     match number {
         1 => rule_1(dag, premises, target),
         2 => rule_2(dag, premises, target),
@@ -147,7 +170,13 @@ fn rule(dag: &Dag, number: u8, premises: &[Fact], target: Slot) -> Option<Fact> 
     }
 }
 
-fn found(rt: &impl Abort, dag: &Dag, number: u8, given: Given, target: Slot) -> Option<Fact> {
+fn found(
+    rt: &impl Abort,
+    dag: &Dag,
+    number: u8,
+    given: Given,
+    target: facts::Slot,
+) -> Option<Fact> {
     match given {
         No => rule(dag, number, &[], target),
         One(a) => rule(dag, number, &[fact(rt, a)], target),
@@ -155,100 +184,86 @@ fn found(rt: &impl Abort, dag: &Dag, number: u8, given: Given, target: Slot) -> 
     }
 }
 
-fn bnd(x: u16) -> Slot {
-    Slot::Bnd(ExprId(x))
-}
-
-fn abs(x: u16) -> Slot {
-    Slot::Abs(ExprId(x))
-}
-
 fn try_rows(rt: &impl Abort, dag: &Dag, rows: &[(u8, Given, Slot, Said)]) {
     for (number, given, target, wanted) in rows {
-        let given = found(rt, dag, *number, *given, *target);
-        assert!(rt;
-            given == fact_of(rt, *wanted),
-            "rule {number} on {target:?}"
-        );
+        let target = slot_of(*target);
+        let found = found(rt, dag, *number, *given, target);
+        concludes(rt, *number, target, found, fact_of(rt, *wanted));
     }
 }
+
+const BOUNDS: &[(u8, Given, Slot, Said)] = &[
+    (1, No, bnd(TENTH), Tenth),
+    (1, No, bnd(X), Nil),
+    (1, No, bnd(12), Nil),
+    (1, One(B(TENTH, 0, 1)), bnd(TENTH), Nil),
+    (1, No, abs(TENTH), Nil),
+    (2, One(B(X, 1, 2)), bnd(NEG), B(NEG, -2, -1)),
+    (2, One(B(Y, 1, 2)), bnd(NEG), Nil),
+    (2, One(A(X, 1, 2)), bnd(NEG), Nil),
+    (2, One(B(X, 1, 2)), Slot::Void, Nil),
+    (3, Two(B(X, 1, 2), B(Y, 3, 5)), bnd(SUM), B(SUM, 4, 7)),
+    (3, Two(B(Y, 3, 5), B(X, 1, 2)), bnd(SUM), Nil),
+    (4, Two(B(X, 1, 2), B(Y, 3, 5)), bnd(SUB), B(SUB, -4, -1)),
+    (4, One(B(X, 1, 2)), bnd(SUB), Nil),
+    (5, One(B(X, -1, INF)), bnd(NOTHING), B(NOTHING, 0, 0)),
+    (5, One(B(X, -1, 1)), bnd(SUB), Nil),
+    (6, Two(B(X, -1, 2), B(Y, 3, 5)), bnd(MUL), B(MUL, -5, 10)),
+    (6, Two(B(X, -1, 2), B(Y, 3, 5)), bnd(SUM), Nil),
+    (7, One(A(X, 2, 3)), bnd(SQUARE), B(SQUARE, 4, 9)),
+    (7, One(B(X, 2, 3)), bnd(SQUARE), Nil),
+    (8, Two(B(X, 4, 8), B(Y, 1, 2)), bnd(DIV), B(DIV, 2, 8)),
+    (8, Two(B(X, 4, 8), B(Y, 0, 2)), bnd(DIV), Nil),
+    (8, Two(B(X, 4, 8), B(Y, -1, 0)), bnd(DIV), Nil),
+    (9, Two(B(X, 4, 8), N(Y)), bnd(DIV), B(DIV, -INF, INF)),
+    (9, Two(B(X, 4, 8), N(X)), bnd(DIV), Nil),
+    (10, One(N(X)), bnd(UNIT), B(UNIT, 1, 1)),
+    (10, One(N(X)), bnd(DIV), Nil),
+];
 
 #[test]
 fn bounds_are_those_of_the_rows(rt: HostRuntime) -> Result<(), Fail> {
     let dag = list(&rt)?;
-    try_rows(
-        &rt,
-        &dag,
-        &[
-            (1, No, bnd(TENTH), Tenth),
-            (1, No, bnd(X), Nil),
-            (1, No, bnd(12), Nil),
-            (1, One(B(TENTH, 0, 1)), bnd(TENTH), Nil),
-            (1, No, abs(TENTH), Nil),
-            (2, One(B(X, 1, 2)), bnd(NEG), B(NEG, -2, -1)),
-            (2, One(B(Y, 1, 2)), bnd(NEG), Nil),
-            (2, One(A(X, 1, 2)), bnd(NEG), Nil),
-            (2, One(B(X, 1, 2)), Slot::Void, Nil),
-            (3, Two(B(X, 1, 2), B(Y, 3, 5)), bnd(SUM), B(SUM, 4, 7)),
-            (3, Two(B(Y, 3, 5), B(X, 1, 2)), bnd(SUM), Nil),
-            (4, Two(B(X, 1, 2), B(Y, 3, 5)), bnd(SUB), B(SUB, -4, -1)),
-            (4, One(B(X, 1, 2)), bnd(SUB), Nil),
-            (5, One(B(X, -1, INF)), bnd(NOTHING), B(NOTHING, 0, 0)),
-            (5, One(B(X, -1, 1)), bnd(SUB), Nil),
-            (6, Two(B(X, -1, 2), B(Y, 3, 5)), bnd(MUL), B(MUL, -5, 10)),
-            (6, Two(B(X, -1, 2), B(Y, 3, 5)), bnd(SUM), Nil),
-            (7, One(A(X, 2, 3)), bnd(SQUARE), B(SQUARE, 4, 9)),
-            (7, One(B(X, 2, 3)), bnd(SQUARE), Nil),
-            (8, Two(B(X, 4, 8), B(Y, 1, 2)), bnd(DIV), B(DIV, 2, 8)),
-            (8, Two(B(X, 4, 8), B(Y, 0, 2)), bnd(DIV), Nil),
-            (8, Two(B(X, 4, 8), B(Y, -1, 0)), bnd(DIV), Nil),
-            (9, Two(B(X, 4, 8), N(Y)), bnd(DIV), B(DIV, -INF, INF)),
-            (9, Two(B(X, 4, 8), N(X)), bnd(DIV), Nil),
-            (10, One(N(X)), bnd(UNIT), B(UNIT, 1, 1)),
-            (10, One(N(X)), bnd(DIV), Nil),
-        ],
-    );
+    try_rows(&rt, &dag, BOUNDS);
     Ok(())
 }
+
+const ABSOLUTE_VALUES: &[(u8, Given, Slot, Said)] = &[
+    (11, One(B(X, -3, 2)), abs(X), A(X, 0, 3)),
+    (11, One(B(X, -3, 2)), abs(Y), Nil),
+    (11, One(B(12, 1, 2)), abs(12), Nil),
+    (12, One(A(X, 2, 3)), bnd(X), B(X, -3, 3)),
+    (12, One(A(X, 2, 3)), bnd(Y), Nil),
+    (13, Two(B(X, -1, 9), A(X, 2, 3)), bnd(X), B(X, 2, 3)),
+    (13, Two(B(X, -9, 1), A(X, 2, 3)), bnd(X), B(X, -3, -2)),
+    (13, Two(B(X, -1, 1), A(X, 2, 3)), bnd(X), V),
+    (13, Two(B(X, -1, 1), A(X, 2, 3)), Slot::Void, V),
+    (13, Two(B(X, -1, 9), A(X, 2, 3)), Slot::Void, Nil),
+    (13, Two(B(X, -2, 2), A(X, 2, 3)), bnd(X), Nil),
+    (13, Two(B(X, -1, 9), A(Y, 2, 3)), bnd(X), Nil),
+    (14, One(A(X, 2, 3)), bnd(SIZE), B(SIZE, 2, 3)),
+    (14, One(A(X, 2, 3)), bnd(NEG), Nil),
+    (15, One(B(SIZE, -1, 3)), abs(X), A(X, 0, 3)),
+    (15, One(B(SIZE, -3, -1)), abs(X), V),
+    (15, One(B(SIZE, -3, -1)), Slot::Void, V),
+    (15, One(B(SIZE, -3, 0)), Slot::Void, Nil),
+    (15, One(B(NEG, -3, -1)), Slot::Void, Nil),
+    (16, One(A(X, 2, 3)), abs(NEG), A(NEG, 2, 3)),
+    (16, One(A(X, 2, 3)), abs(SUM), Nil),
+    (17, Two(A(X, 2, 3), A(Y, 4, 5)), abs(MUL), A(MUL, 8, 15)),
+    (17, Two(A(X, 2, 3), A(Y, 4, INF)), abs(MUL), A(MUL, 0, INF)),
+    (17, Two(A(X, 2, 3), A(Y, 4, 5)), abs(DIV), Nil),
+    (18, Two(A(X, 4, 8), A(Y, 1, 2)), abs(DIV), A(DIV, 2, 8)),
+    (18, Two(A(X, 4, 8), A(Y, 0, 2)), abs(DIV), Nil),
+    (19, Two(A(X, 1, 2), A(Y, 5, 9)), abs(SUM), A(SUM, 3, 11)),
+    (19, Two(A(X, 1, 6), A(Y, 5, 9)), abs(SUB), A(SUB, 0, 15)),
+    (19, Two(A(X, 12, 13), A(Y, 5, 9)), abs(SUB), A(SUB, 3, 22)),
+    (19, Two(A(X, 1, 2), A(Y, 5, 9)), abs(MUL), Nil),
+];
 
 #[test]
 fn absolute_values_are_those_of_the_rows(rt: HostRuntime) -> Result<(), Fail> {
     let dag = list(&rt)?;
-    try_rows(
-        &rt,
-        &dag,
-        &[
-            (11, One(B(X, -3, 2)), abs(X), A(X, 0, 3)),
-            (11, One(B(X, -3, 2)), abs(Y), Nil),
-            (11, One(B(12, 1, 2)), abs(12), Nil),
-            (12, One(A(X, 2, 3)), bnd(X), B(X, -3, 3)),
-            (12, One(A(X, 2, 3)), bnd(Y), Nil),
-            (13, Two(B(X, -1, 9), A(X, 2, 3)), bnd(X), B(X, 2, 3)),
-            (13, Two(B(X, -9, 1), A(X, 2, 3)), bnd(X), B(X, -3, -2)),
-            (13, Two(B(X, -1, 1), A(X, 2, 3)), bnd(X), V),
-            (13, Two(B(X, -1, 1), A(X, 2, 3)), Slot::Void, V),
-            (13, Two(B(X, -1, 9), A(X, 2, 3)), Slot::Void, Nil),
-            (13, Two(B(X, -2, 2), A(X, 2, 3)), bnd(X), Nil),
-            (13, Two(B(X, -1, 9), A(Y, 2, 3)), bnd(X), Nil),
-            (14, One(A(X, 2, 3)), bnd(SIZE), B(SIZE, 2, 3)),
-            (14, One(A(X, 2, 3)), bnd(NEG), Nil),
-            (15, One(B(SIZE, -1, 3)), abs(X), A(X, 0, 3)),
-            (15, One(B(SIZE, -3, -1)), abs(X), V),
-            (15, One(B(SIZE, -3, -1)), Slot::Void, V),
-            (15, One(B(SIZE, -3, 0)), Slot::Void, Nil),
-            (15, One(B(NEG, -3, -1)), Slot::Void, Nil),
-            (16, One(A(X, 2, 3)), abs(NEG), A(NEG, 2, 3)),
-            (16, One(A(X, 2, 3)), abs(SUM), Nil),
-            (17, Two(A(X, 2, 3), A(Y, 4, 5)), abs(MUL), A(MUL, 8, 15)),
-            (17, Two(A(X, 2, 3), A(Y, 4, INF)), abs(MUL), A(MUL, 0, INF)),
-            (17, Two(A(X, 2, 3), A(Y, 4, 5)), abs(DIV), Nil),
-            (18, Two(A(X, 4, 8), A(Y, 1, 2)), abs(DIV), A(DIV, 2, 8)),
-            (18, Two(A(X, 4, 8), A(Y, 0, 2)), abs(DIV), Nil),
-            (19, Two(A(X, 1, 2), A(Y, 5, 9)), abs(SUM), A(SUM, 3, 11)),
-            (19, Two(A(X, 1, 6), A(Y, 5, 9)), abs(SUB), A(SUB, 0, 15)),
-            (19, Two(A(X, 12, 13), A(Y, 5, 9)), abs(SUB), A(SUB, 3, 22)),
-            (19, Two(A(X, 1, 2), A(Y, 5, 9)), abs(MUL), Nil),
-        ],
-    );
+    try_rows(&rt, &dag, ABSOLUTE_VALUES);
     Ok(())
 }

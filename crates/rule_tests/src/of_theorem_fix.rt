@@ -1,7 +1,8 @@
 // The rules on multiples and on values other than 0, at values that were worked out by hand.
+use crate::conclusions::concludes;
 use dyadic::{Dyadic, End};
 use expr_dag::Dag;
-use facts::{Fact, FixPlace, RelativeError, Size, Slot};
+use facts::{Fact, FixPlace, RelativeError, Size};
 use fx_model::{Direction, ExprId, Node, Rounding};
 use interval::Interval;
 use std::process::Abort;
@@ -34,6 +35,7 @@ pub const INF: i64 = 100;
 
 pub use Given::{No, One, Two};
 pub use Said::{A, B, Equal, F, N, Near, Nil, V};
+pub use Slot::{Bnd as bnd, Fix as fix, Nzr as nzr};
 
 /// A fact with whole ends, or nothing. `Near` is a relative error from 0 to 1, `Equal` that both
 /// sides are 0.
@@ -57,8 +59,26 @@ pub enum Given {
     Two(Said, Said),
 }
 
-fn list(rt: &impl AllocGlobal) -> Result<Dag, Fail> {
-    let mut dag = Dag::new(rt.alloc());
+/// What a row asks for: the bounds of an expression, what it is a multiple of, that it isn't 0, or
+/// a contradiction.
+#[derive(Clone, Copy)]
+pub enum Slot {
+    Bnd(u16),
+    Fix(u16),
+    Nzr(u16),
+    Void,
+}
+
+fn slot_of(asked: Slot) -> facts::Slot {
+    match asked {
+        bnd(x) => facts::Slot::Bnd(ExprId(x)),
+        fix(x) => facts::Slot::Fix(ExprId(x)),
+        nzr(x) => facts::Slot::Nzr(ExprId(x)),
+        Slot::Void => facts::Slot::Void,
+    }
+}
+
+fn fill(dag: &mut Dag) -> Result<(), Fail> {
     let x = dag.add(Node::Var(0))?;
     let y = dag.add(Node::Var(1))?;
     dag.add(Node::Neg(x))?;
@@ -73,6 +93,12 @@ fn list(rt: &impl AllocGlobal) -> Result<Dag, Fail> {
         },
         x,
     ))?;
+    Ok(())
+}
+
+fn list(rt: &impl AllocGlobal) -> Result<Dag, Fail> {
+    let mut dag = Dag::new(rt.alloc());
+    fill(&mut dag)?;
     Ok(dag)
 }
 
@@ -115,7 +141,7 @@ fn fact(rt: &impl Abort, premise: Said) -> Fact {
     fact_of(rt, premise).expect(rt, "a premise")
 }
 
-fn rule(dag: &Dag, number: u8, premises: &[Fact], target: Slot) -> Option<Fact> {
+fn rule(dag: &Dag, number: u8, premises: &[Fact], target: facts::Slot) -> Option<Fact> {
     match number {
         21 => rule_21(dag, premises, target),
         22 => rule_22(dag, premises, target),
@@ -139,7 +165,13 @@ fn rule(dag: &Dag, number: u8, premises: &[Fact], target: Slot) -> Option<Fact> 
     }
 }
 
-fn found(rt: &impl Abort, dag: &Dag, number: u8, given: Given, target: Slot) -> Option<Fact> {
+fn found(
+    rt: &impl Abort,
+    dag: &Dag,
+    number: u8,
+    given: Given,
+    target: facts::Slot,
+) -> Option<Fact> {
     match given {
         No => rule(dag, number, &[], target),
         One(a) => rule(dag, number, &[fact(rt, a)], target),
@@ -147,105 +179,85 @@ fn found(rt: &impl Abort, dag: &Dag, number: u8, given: Given, target: Slot) -> 
     }
 }
 
-/// The slot of the bounds of expression `x`.
-pub fn bnd(x: u16) -> Slot {
-    Slot::Bnd(ExprId(x))
-}
-
-/// The slot of what expression `x` is a multiple of.
-pub fn fix(x: u16) -> Slot {
-    Slot::Fix(ExprId(x))
-}
-
-fn nzr(x: u16) -> Slot {
-    Slot::Nzr(ExprId(x))
-}
-
 /// Tries each row: the rule with this number, from these premises and at this target, gives what is
 /// said.
 pub fn try_rows(rt: &impl Abort, dag: &Dag, rows: &[(u8, Given, Slot, Said)]) {
     for (number, given, target, wanted) in rows {
-        let given = found(rt, dag, *number, *given, *target);
-        assert!(rt;
-            given == fact_of(rt, *wanted),
-            "rule {number} on {target:?}"
-        );
+        let target = slot_of(*target);
+        let found = found(rt, dag, *number, *given, target);
+        concludes(rt, *number, target, found, fact_of(rt, *wanted));
     }
 }
+
+const MULTIPLES: &[(u8, Given, Slot, Said)] = &[
+    (22, One(F(X, -3)), fix(NEG), F(NEG, -3)),
+    (22, One(F(Y, -3)), fix(NEG), Nil),
+    (22, One(F(X, -3)), fix(SUM), Nil),
+    (22, One(F(X, -3)), Slot::Void, Nil),
+    (23, Two(F(X, -3), F(Y, 5)), fix(SUM), F(SUM, -3)),
+    (23, Two(F(X, 5), F(Y, -3)), fix(SUB), F(SUB, -3)),
+    (23, Two(F(Y, 5), F(X, -3)), fix(SUM), Nil),
+    (23, One(F(X, 5)), fix(SUM), Nil),
+    (24, Two(F(X, -3), F(Y, 5)), fix(MUL), F(MUL, 2)),
+    (24, Two(F(X, 300), F(Y, 300)), fix(MUL), F(MUL, 512)),
+    (24, Two(F(X, -512), F(Y, -512)), fix(MUL), F(MUL, -1024)),
+    (24, Two(F(X, -513), F(Y, -512)), fix(MUL), Nil),
+    (24, Two(F(X, -3), F(Y, 5)), fix(SUM), Nil),
+    (25, One(B(X, -1, INF)), fix(RND), F(RND, -4)),
+    (25, One(B(Y, 1, 2)), fix(RND), Nil),
+    (25, One(B(X, 1, 2)), fix(NEG), Nil),
+    (26, One(F(X, -4)), fix(RND), F(RND, -4)),
+    (26, One(F(X, 7)), fix(RND), F(RND, 7)),
+    (26, One(F(X, -5)), fix(RND), Nil),
+    (26, One(F(Y, 7)), fix(RND), Nil),
+    (27, One(B(X, 12, 12)), fix(X), F(X, 2)),
+    (27, One(B(X, -1, -1)), fix(X), F(X, 0)),
+    (27, One(B(X, 0, 0)), fix(X), F(X, 512)),
+    (27, One(B(X, 1, 2)), fix(X), Nil),
+    (27, One(B(X, -INF, INF)), fix(X), Nil),
+    (27, One(B(X, 12, 12)), fix(Y), Nil),
+    (27, One(B(8, 12, 12)), fix(8), Nil),
+];
 
 #[test]
 fn multiples_are_those_of_the_rows(rt: HostRuntime) -> Result<(), Fail> {
     let dag = list(&rt)?;
-    try_rows(
-        &rt,
-        &dag,
-        &[
-            (22, One(F(X, -3)), fix(NEG), F(NEG, -3)),
-            (22, One(F(Y, -3)), fix(NEG), Nil),
-            (22, One(F(X, -3)), fix(SUM), Nil),
-            (22, One(F(X, -3)), Slot::Void, Nil),
-            (23, Two(F(X, -3), F(Y, 5)), fix(SUM), F(SUM, -3)),
-            (23, Two(F(X, 5), F(Y, -3)), fix(SUB), F(SUB, -3)),
-            (23, Two(F(Y, 5), F(X, -3)), fix(SUM), Nil),
-            (23, One(F(X, 5)), fix(SUM), Nil),
-            (24, Two(F(X, -3), F(Y, 5)), fix(MUL), F(MUL, 2)),
-            (24, Two(F(X, 300), F(Y, 300)), fix(MUL), F(MUL, 512)),
-            (24, Two(F(X, -512), F(Y, -512)), fix(MUL), F(MUL, -1024)),
-            (24, Two(F(X, -513), F(Y, -512)), fix(MUL), Nil),
-            (24, Two(F(X, -3), F(Y, 5)), fix(SUM), Nil),
-            (25, One(B(X, -1, INF)), fix(RND), F(RND, -4)),
-            (25, One(B(Y, 1, 2)), fix(RND), Nil),
-            (25, One(B(X, 1, 2)), fix(NEG), Nil),
-            (26, One(F(X, -4)), fix(RND), F(RND, -4)),
-            (26, One(F(X, 7)), fix(RND), F(RND, 7)),
-            (26, One(F(X, -5)), fix(RND), Nil),
-            (26, One(F(Y, 7)), fix(RND), Nil),
-            (27, One(B(X, 12, 12)), fix(X), F(X, 2)),
-            (27, One(B(X, -1, -1)), fix(X), F(X, 0)),
-            (27, One(B(X, 0, 0)), fix(X), F(X, 512)),
-            (27, One(B(X, 1, 2)), fix(X), Nil),
-            (27, One(B(X, -INF, INF)), fix(X), Nil),
-            (27, One(B(X, 12, 12)), fix(Y), Nil),
-            (27, One(B(8, 12, 12)), fix(8), Nil),
-        ],
-    );
+    try_rows(&rt, &dag, MULTIPLES);
     Ok(())
 }
+
+const NONZERO: &[(u8, Given, Slot, Said)] = &[
+    (31, One(B(X, 1, 2)), nzr(X), N(X)),
+    (31, One(B(X, -INF, -1)), nzr(X), N(X)),
+    (31, One(B(X, 0, 1)), nzr(X), Nil),
+    (31, One(B(X, -1, 0)), nzr(X), Nil),
+    (31, One(B(X, 1, 2)), nzr(Y), Nil),
+    (31, One(B(8, 1, 2)), nzr(8), Nil),
+    (32, One(A(X, 1, INF)), nzr(X), N(X)),
+    (32, One(A(X, 0, 3)), nzr(X), Nil),
+    (32, One(A(X, 1, 2)), nzr(Y), Nil),
+    (33, Two(N(X), N(Y)), nzr(MUL), N(MUL)),
+    (33, Two(N(Y), N(X)), nzr(MUL), Nil),
+    (33, Two(N(X), N(Y)), nzr(DIV), Nil),
+    (34, Two(N(X), N(Y)), nzr(DIV), N(DIV)),
+    (34, Two(N(X), N(Y)), nzr(SUM), Nil),
+    (35, One(N(X)), nzr(NEG), N(NEG)),
+    (35, One(N(NEG)), nzr(X), Nil),
+    (36, Two(Near(X, Y), N(X)), nzr(Y), N(Y)),
+    (36, Two(Near(X, Y), N(Y)), nzr(X), N(X)),
+    (36, Two(Near(X, X), N(X)), nzr(X), N(X)),
+    (36, Two(Near(X, Y), N(X)), nzr(X), Nil),
+    (36, Two(Near(X, Y), N(Y)), Slot::Void, Nil),
+    (36, Two(Equal(X, Y), N(X)), nzr(Y), V),
+    (36, Two(Equal(X, Y), N(Y)), Slot::Void, V),
+    (36, Two(Equal(X, Y), N(NEG)), Slot::Void, Nil),
+    (36, Two(Equal(X, Y), N(NEG)), nzr(X), Nil),
+    (36, Two(Equal(X, 8), N(X)), nzr(8), Nil),
+];
 
 #[test]
 fn nonzero_values_are_those_of_the_rows(rt: HostRuntime) -> Result<(), Fail> {
     let dag = list(&rt)?;
-    try_rows(
-        &rt,
-        &dag,
-        &[
-            (31, One(B(X, 1, 2)), nzr(X), N(X)),
-            (31, One(B(X, -INF, -1)), nzr(X), N(X)),
-            (31, One(B(X, 0, 1)), nzr(X), Nil),
-            (31, One(B(X, -1, 0)), nzr(X), Nil),
-            (31, One(B(X, 1, 2)), nzr(Y), Nil),
-            (31, One(B(8, 1, 2)), nzr(8), Nil),
-            (32, One(A(X, 1, INF)), nzr(X), N(X)),
-            (32, One(A(X, 0, 3)), nzr(X), Nil),
-            (32, One(A(X, 1, 2)), nzr(Y), Nil),
-            (33, Two(N(X), N(Y)), nzr(MUL), N(MUL)),
-            (33, Two(N(Y), N(X)), nzr(MUL), Nil),
-            (33, Two(N(X), N(Y)), nzr(DIV), Nil),
-            (34, Two(N(X), N(Y)), nzr(DIV), N(DIV)),
-            (34, Two(N(X), N(Y)), nzr(SUM), Nil),
-            (35, One(N(X)), nzr(NEG), N(NEG)),
-            (35, One(N(NEG)), nzr(X), Nil),
-            (36, Two(Near(X, Y), N(X)), nzr(Y), N(Y)),
-            (36, Two(Near(X, Y), N(Y)), nzr(X), N(X)),
-            (36, Two(Near(X, X), N(X)), nzr(X), N(X)),
-            (36, Two(Near(X, Y), N(X)), nzr(X), Nil),
-            (36, Two(Near(X, Y), N(Y)), Slot::Void, Nil),
-            (36, Two(Equal(X, Y), N(X)), nzr(Y), V),
-            (36, Two(Equal(X, Y), N(Y)), Slot::Void, V),
-            (36, Two(Equal(X, Y), N(NEG)), Slot::Void, Nil),
-            (36, Two(Equal(X, Y), N(NEG)), nzr(X), Nil),
-            (36, Two(Equal(X, 8), N(X)), nzr(8), Nil),
-        ],
-    );
+    try_rows(&rt, &dag, NONZERO);
     Ok(())
 }

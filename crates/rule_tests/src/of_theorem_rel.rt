@@ -1,7 +1,8 @@
 // Each rule, at values that were worked out by hand.
+use crate::conclusions::concludes;
 use dyadic::{Dyadic, End};
 use expr_dag::Dag;
-use facts::{Fact, RelativeError, Slot};
+use facts::{Fact, RelativeError};
 use fx_model::{ExprId, Node};
 use interval::Interval;
 use std::process::Abort;
@@ -38,21 +39,40 @@ const SHARE: u16 = 14;
 // Ends from here on, on both sides, are infinite.
 const INF: i64 = 100;
 
-use Said::{Bnd, Nil, Nzr, Rel, Void, Zero};
+use Said::{Bnd, Nil, Nzr, On as on, Rel, Void, Zero, ZeroOn as zero};
+use Slot::{Bnd as bnd, Rel as rel};
 
-// A fact whose ends are so many eighths, or nothing; `Zero` is that both are 0.
+// A fact whose ends are so many eighths, or nothing; `Zero` is that both are 0. `On` and `ZeroOn`
+// are of a pair.
 #[derive(Clone, Copy)]
 enum Said {
     Bnd(u16, i64, i64),
     Rel(u16, u16, i64, i64),
+    On((u16, u16), i64, i64),
     Zero(u16, u16),
+    ZeroOn((u16, u16)),
     Nzr(u16),
     Void,
     Nil,
 }
 
-fn list(rt: &impl AllocGlobal) -> Result<Dag, Fail> {
-    let mut dag = Dag::new(rt.alloc());
+// What a row asks for.
+#[derive(Clone, Copy)]
+enum Slot {
+    Bnd(u16),
+    Rel((u16, u16)),
+    Void,
+}
+
+fn slot_of(asked: Slot) -> facts::Slot {
+    match asked {
+        bnd(x) => facts::Slot::Bnd(ExprId(x)),
+        rel(pair) => facts::Slot::Rel(ExprId(pair.0), ExprId(pair.1)),
+        Slot::Void => facts::Slot::Void,
+    }
+}
+
+fn fill(dag: &mut Dag) -> Result<(), Fail> {
     let a = dag.add(Node::Var(0))?;
     let b = dag.add(Node::Var(1))?;
     let c = dag.add(Node::Var(2))?;
@@ -68,6 +88,12 @@ fn list(rt: &impl AllocGlobal) -> Result<Dag, Fail> {
     dag.add(Node::Add(a, b))?;
     let sum = dag.add(Node::Add(c, d))?;
     dag.add(Node::Div(c, sum))?;
+    Ok(())
+}
+
+fn list(rt: &impl AllocGlobal) -> Result<Dag, Fail> {
+    let mut dag = Dag::new(rt.alloc());
+    fill(&mut dag)?;
     Ok(dag)
 }
 
@@ -93,7 +119,9 @@ fn fact_of(rt: &impl Abort, said: Said) -> Option<Fact> {
     Some(match said {
         Bnd(x, lo, hi) => Fact::Bnd(ExprId(x), range(rt, lo, hi)),
         Rel(x, y, lo, hi) => Fact::Rel(ExprId(x), ExprId(y), Some(error(rt, lo, hi))),
+        on(pair, lo, hi) => Fact::Rel(ExprId(pair.0), ExprId(pair.1), Some(error(rt, lo, hi))),
         Zero(x, y) => Fact::Rel(ExprId(x), ExprId(y), None),
+        zero(pair) => Fact::Rel(ExprId(pair.0), ExprId(pair.1), None),
         Nzr(x) => Fact::Nzr(ExprId(x)),
         Void => Fact::Void,
         Nil => return None,
@@ -104,7 +132,7 @@ fn fact(rt: &impl Abort, premise: Said) -> Fact {
     fact_of(rt, premise).expect(rt, "a premise")
 }
 
-fn rule(dag: &Dag, number: u8, premises: &[Fact], target: Slot) -> Option<Fact> {
+fn rule(dag: &Dag, number: u8, premises: &[Fact], target: facts::Slot) -> Option<Fact> {
     match number {
         51 => rule_51(dag, premises, target),
         52 => rule_52(dag, premises, target),
@@ -126,7 +154,7 @@ fn found(
     dag: &Dag,
     number: u8,
     given: (Said, Said, Said),
-    target: Slot,
+    target: facts::Slot,
 ) -> Option<Fact> {
     match given {
         (a, Nil, _) => rule(dag, number, &[fact(rt, a)], target),
@@ -140,211 +168,194 @@ fn found(
     }
 }
 
-fn bnd(x: u16) -> Slot {
-    Slot::Bnd(ExprId(x))
-}
-
-fn rel(pair: (u16, u16)) -> Slot {
-    Slot::Rel(ExprId(pair.0), ExprId(pair.1))
-}
-
-fn on(pair: (u16, u16), lo: i64, hi: i64) -> Said {
-    Rel(pair.0, pair.1, lo, hi)
-}
-
-fn zero(pair: (u16, u16)) -> Said {
-    Zero(pair.0, pair.1)
-}
-
 fn try_rows(rt: &impl Abort, dag: &Dag, rows: &[(u8, (Said, Said, Said), Slot, Said)]) {
     for (number, given, target, wanted) in rows {
-        let found = found(rt, dag, *number, *given, *target);
-        assert!(rt;
-            found == fact_of(rt, *wanted),
-            "rule {number} on {target:?}"
-        );
+        let target = slot_of(*target);
+        let found = found(rt, dag, *number, *given, target);
+        concludes(rt, *number, target, found, fact_of(rt, *wanted));
     }
 }
+
+const AC: (u16, u16) = (A, C);
+
+const BD: (u16, u16) = (B, D);
+
+const VOID: Slot = Slot::Void;
+
+const HALF: Said = on(AC, 4, 4);
+
+const ERRORS_AND_BOUNDS: &[(u8, (Said, Said, Said), Slot, Said)] = &[
+    (51, (Bnd(A, 1, 2), Nil, Nil), rel((A, A)), on((A, A), 0, 0)),
+    (51, (Bnd(A, 1, 2), Nil, Nil), rel(AC), Nil),
+    (51, (Bnd(15, 1, 2), Nil, Nil), rel((15, 15)), Nil),
+    (
+        52,
+        (Bnd(DIFFERENCE, 8, 16), Bnd(C, 8, 16), Nil),
+        rel(AC),
+        on(AC, 4, 16),
+    ),
+    (
+        52,
+        (Bnd(DIFFERENCE, -8, 2), Bnd(C, 8, 16), Nil),
+        rel(AC),
+        Nil,
+    ),
+    (52, (Bnd(DIFFERENCE, 1, 2), Bnd(C, 0, 8), Nil), rel(AC), Nil),
+    (
+        52,
+        (Bnd(DIFFERENCE, 1, 2), Bnd(A, 8, 16), Nil),
+        rel(AC),
+        Nil,
+    ),
+    (
+        53,
+        (on(AC, 4, 8), Bnd(C, 16, 24), Nil),
+        bnd(DIFFERENCE),
+        Bnd(DIFFERENCE, 8, 24),
+    ),
+    (
+        53,
+        (zero(AC), Bnd(C, -8, 8), Nil),
+        bnd(DIFFERENCE),
+        Bnd(DIFFERENCE, 0, 0),
+    ),
+    (53, (zero(AC), Bnd(C, 1, 8), Nil), bnd(DIFFERENCE), Void),
+    (53, (zero(AC), Bnd(C, 1, 8), Nil), VOID, Void),
+    (53, (zero(AC), Bnd(C, 0, 8), Nil), VOID, Nil),
+    (53, (on(AC, 4, 8), Bnd(C, 1, 8), Nil), VOID, Nil),
+    (
+        54,
+        (on(AC, 0, 8), Bnd(C, 8, 16), Nil),
+        bnd(A),
+        Bnd(A, 8, 32),
+    ),
+    (54, (on(AC, 0, 8), Bnd(C, 8, 16), Nil), bnd(C), Nil),
+    (54, (zero(AC), Bnd(C, 0, 8), Nil), bnd(A), Bnd(A, 0, 0)),
+    (54, (zero(AC), Bnd(C, 1, 8), Nil), bnd(A), Void),
+    (54, (zero(AC), Bnd(C, 1, 8), Nil), VOID, Void),
+    (
+        55,
+        (on(AC, -4, 4), Nzr(C), Nil),
+        bnd(QUOTIENT),
+        Bnd(QUOTIENT, 4, 12),
+    ),
+    (55, (zero(AC), Nzr(C), Nil), bnd(QUOTIENT), Void),
+    (55, (zero(AC), Nzr(C), Nil), VOID, Void),
+    (55, (on(AC, -4, 4), Nzr(C), Nil), VOID, Nil),
+    (55, (on(AC, -4, 4), Nzr(A), Nil), bnd(QUOTIENT), Nil),
+];
 
 #[test]
 fn relative_errors_and_bounds(rt: HostRuntime) -> Result<(), Fail> {
     let dag = list(&rt)?;
-    let (ac, void) = ((A, C), Slot::Void);
-    try_rows(
-        &rt,
-        &dag,
-        &[
-            (51, (Bnd(A, 1, 2), Nil, Nil), rel((A, A)), on((A, A), 0, 0)),
-            (51, (Bnd(A, 1, 2), Nil, Nil), rel(ac), Nil),
-            (51, (Bnd(15, 1, 2), Nil, Nil), rel((15, 15)), Nil),
-            (
-                52,
-                (Bnd(DIFFERENCE, 8, 16), Bnd(C, 8, 16), Nil),
-                rel(ac),
-                on(ac, 4, 16),
-            ),
-            (
-                52,
-                (Bnd(DIFFERENCE, -8, 2), Bnd(C, 8, 16), Nil),
-                rel(ac),
-                Nil,
-            ),
-            (52, (Bnd(DIFFERENCE, 1, 2), Bnd(C, 0, 8), Nil), rel(ac), Nil),
-            (
-                52,
-                (Bnd(DIFFERENCE, 1, 2), Bnd(A, 8, 16), Nil),
-                rel(ac),
-                Nil,
-            ),
-            (
-                53,
-                (on(ac, 4, 8), Bnd(C, 16, 24), Nil),
-                bnd(DIFFERENCE),
-                Bnd(DIFFERENCE, 8, 24),
-            ),
-            (
-                53,
-                (zero(ac), Bnd(C, -8, 8), Nil),
-                bnd(DIFFERENCE),
-                Bnd(DIFFERENCE, 0, 0),
-            ),
-            (53, (zero(ac), Bnd(C, 1, 8), Nil), bnd(DIFFERENCE), Void),
-            (53, (zero(ac), Bnd(C, 1, 8), Nil), void, Void),
-            (53, (zero(ac), Bnd(C, 0, 8), Nil), void, Nil),
-            (53, (on(ac, 4, 8), Bnd(C, 1, 8), Nil), void, Nil),
-            (
-                54,
-                (on(ac, 0, 8), Bnd(C, 8, 16), Nil),
-                bnd(A),
-                Bnd(A, 8, 32),
-            ),
-            (54, (on(ac, 0, 8), Bnd(C, 8, 16), Nil), bnd(C), Nil),
-            (54, (zero(ac), Bnd(C, 0, 8), Nil), bnd(A), Bnd(A, 0, 0)),
-            (54, (zero(ac), Bnd(C, 1, 8), Nil), bnd(A), Void),
-            (54, (zero(ac), Bnd(C, 1, 8), Nil), void, Void),
-            (
-                55,
-                (on(ac, -4, 4), Nzr(C), Nil),
-                bnd(QUOTIENT),
-                Bnd(QUOTIENT, 4, 12),
-            ),
-            (55, (zero(ac), Nzr(C), Nil), bnd(QUOTIENT), Void),
-            (55, (zero(ac), Nzr(C), Nil), void, Void),
-            (55, (on(ac, -4, 4), Nzr(C), Nil), void, Nil),
-            (55, (on(ac, -4, 4), Nzr(A), Nil), bnd(QUOTIENT), Nil),
-        ],
-    );
+    try_rows(&rt, &dag, ERRORS_AND_BOUNDS);
     Ok(())
 }
+
+const OPERATIONS: &[(u8, (Said, Said, Said), Slot, Said)] = &[
+    (
+        56,
+        (HALF, on(BD, 4, 4), Nil),
+        rel(PRODUCTS),
+        on(PRODUCTS, 10, 10),
+    ),
+    (56, (on(AC, -7, 0), on(BD, -4, 0), Nil), rel(PRODUCTS), Nil),
+    (
+        56,
+        (zero(AC), on(BD, 4, 4), Nil),
+        rel(PRODUCTS),
+        zero(PRODUCTS),
+    ),
+    (56, (HALF, zero(BD), Nil), rel(PRODUCTS), zero(PRODUCTS)),
+    (56, (zero(AC), zero(BD), Nil), rel(PRODUCTS), zero(PRODUCTS)),
+    (56, (on(BD, 4, 4), HALF, Nil), rel(PRODUCTS), Nil),
+    (
+        57,
+        (on(AC, 8, 8), on(BD, 0, 0), Nzr(D)),
+        rel(QUOTIENTS),
+        on(QUOTIENTS, 8, 8),
+    ),
+    (
+        57,
+        (on(AC, 0, 0), on(BD, 8, 8), Nzr(D)),
+        rel(QUOTIENTS),
+        on(QUOTIENTS, -4, -4),
+    ),
+    (
+        57,
+        (zero(AC), on(BD, 8, 8), Nzr(D)),
+        rel(QUOTIENTS),
+        zero(QUOTIENTS),
+    ),
+    (57, (HALF, zero(BD), Nzr(D)), rel(QUOTIENTS), Void),
+    (57, (zero(AC), zero(BD), Nzr(D)), rel(QUOTIENTS), Void),
+    (57, (zero(AC), zero(BD), Nzr(D)), VOID, Void),
+    (57, (HALF, on(BD, 8, 8), Nzr(D)), VOID, Nil),
+    (57, (HALF, on(BD, 8, 8), Nzr(C)), rel(QUOTIENTS), Nil),
+    (
+        58,
+        (HALF, Rel(C, D, 4, 4), Nil),
+        rel((A, D)),
+        Rel(A, D, 10, 10),
+    ),
+    (58, (HALF, Zero(C, D), Nil), rel((A, D)), Zero(A, D)),
+    (
+        58,
+        (zero(AC), Rel(C, D, 4, 4), Nil),
+        rel((A, D)),
+        Zero(A, D),
+    ),
+    (58, (HALF, on(BD, 4, 4), Nil), rel((A, D)), Nil),
+    (58, (HALF, Rel(C, D, 4, 4), Nil), rel((D, A)), Nil),
+    (59, (on(AC, 8, 8), Nil, Nil), rel((C, A)), Rel(C, A, -4, -4)),
+    (59, (zero(AC), Nil, Nil), rel((C, A)), Zero(C, A)),
+    (59, (on(AC, 8, 8), Nil, Nil), rel(AC), Nil),
+    (60, (HALF, Nil, Nil), rel(NEGATIONS), on(NEGATIONS, 4, 4)),
+    (60, (zero(AC), Nil, Nil), rel(NEGATIONS), zero(NEGATIONS)),
+    (60, (on(BD, 4, 4), Nil, Nil), rel(NEGATIONS), Nil),
+    (
+        61,
+        (on(AC, 8, 8), on(BD, 0, 0), Bnd(SHARE, 4, 4)),
+        rel(SUMS),
+        on(SUMS, 4, 4),
+    ),
+    (
+        61,
+        (on(AC, 0, 0), on(BD, 8, 8), Bnd(SHARE, 2, 2)),
+        rel(SUMS),
+        on(SUMS, 6, 6),
+    ),
+    (61, (HALF, HALF, Bnd(SHARE, 4, 4)), rel(SUMS), Nil),
+    (
+        61,
+        (zero(AC), on(BD, 4, 4), Bnd(SHARE, 0, 4)),
+        rel(SUMS),
+        on(SUMS, 4, 4),
+    ),
+    (
+        61,
+        (zero(AC), on(BD, 4, 4), Bnd(SHARE, 1, 8)),
+        rel(SUMS),
+        Void,
+    ),
+    (
+        61,
+        (HALF, zero(BD), Bnd(SHARE, 4, 8)),
+        rel(SUMS),
+        on(SUMS, 4, 4),
+    ),
+    (61, (HALF, zero(BD), Bnd(SHARE, 0, 4)), rel(SUMS), Void),
+    (61, (HALF, zero(BD), Bnd(SHARE, 0, 4)), VOID, Void),
+    (61, (HALF, zero(BD), Bnd(SHARE, 0, 8)), VOID, Nil),
+    (61, (zero(AC), zero(BD), Bnd(SHARE, 0, 8)), rel(SUMS), Void),
+    (61, (zero(AC), zero(BD), Bnd(SHARE, 0, 8)), VOID, Void),
+    (61, (zero(AC), on(BD, 4, 4), Bnd(SHARE, 1, 8)), VOID, Void),
+    (61, (zero(AC), zero(BD), Bnd(QUOTIENT, 0, 8)), VOID, Nil),
+];
 
 #[test]
 fn relative_errors_of_operations(rt: HostRuntime) -> Result<(), Fail> {
     let dag = list(&rt)?;
-    let (ac, bd, void) = ((A, C), (B, D), Slot::Void);
-    let half = on(ac, 4, 4);
-    try_rows(
-        &rt,
-        &dag,
-        &[
-            (
-                56,
-                (half, on(bd, 4, 4), Nil),
-                rel(PRODUCTS),
-                on(PRODUCTS, 10, 10),
-            ),
-            (56, (on(ac, -7, 0), on(bd, -4, 0), Nil), rel(PRODUCTS), Nil),
-            (
-                56,
-                (zero(ac), on(bd, 4, 4), Nil),
-                rel(PRODUCTS),
-                zero(PRODUCTS),
-            ),
-            (56, (half, zero(bd), Nil), rel(PRODUCTS), zero(PRODUCTS)),
-            (56, (zero(ac), zero(bd), Nil), rel(PRODUCTS), zero(PRODUCTS)),
-            (56, (on(bd, 4, 4), half, Nil), rel(PRODUCTS), Nil),
-            (
-                57,
-                (on(ac, 8, 8), on(bd, 0, 0), Nzr(D)),
-                rel(QUOTIENTS),
-                on(QUOTIENTS, 8, 8),
-            ),
-            (
-                57,
-                (on(ac, 0, 0), on(bd, 8, 8), Nzr(D)),
-                rel(QUOTIENTS),
-                on(QUOTIENTS, -4, -4),
-            ),
-            (
-                57,
-                (zero(ac), on(bd, 8, 8), Nzr(D)),
-                rel(QUOTIENTS),
-                zero(QUOTIENTS),
-            ),
-            (57, (half, zero(bd), Nzr(D)), rel(QUOTIENTS), Void),
-            (57, (zero(ac), zero(bd), Nzr(D)), rel(QUOTIENTS), Void),
-            (57, (zero(ac), zero(bd), Nzr(D)), void, Void),
-            (57, (half, on(bd, 8, 8), Nzr(D)), void, Nil),
-            (57, (half, on(bd, 8, 8), Nzr(C)), rel(QUOTIENTS), Nil),
-            (
-                58,
-                (half, Rel(C, D, 4, 4), Nil),
-                rel((A, D)),
-                Rel(A, D, 10, 10),
-            ),
-            (58, (half, Zero(C, D), Nil), rel((A, D)), Zero(A, D)),
-            (
-                58,
-                (zero(ac), Rel(C, D, 4, 4), Nil),
-                rel((A, D)),
-                Zero(A, D),
-            ),
-            (58, (half, on(bd, 4, 4), Nil), rel((A, D)), Nil),
-            (58, (half, Rel(C, D, 4, 4), Nil), rel((D, A)), Nil),
-            (59, (on(ac, 8, 8), Nil, Nil), rel((C, A)), Rel(C, A, -4, -4)),
-            (59, (zero(ac), Nil, Nil), rel((C, A)), Zero(C, A)),
-            (59, (on(ac, 8, 8), Nil, Nil), rel(ac), Nil),
-            (60, (half, Nil, Nil), rel(NEGATIONS), on(NEGATIONS, 4, 4)),
-            (60, (zero(ac), Nil, Nil), rel(NEGATIONS), zero(NEGATIONS)),
-            (60, (on(bd, 4, 4), Nil, Nil), rel(NEGATIONS), Nil),
-            (
-                61,
-                (on(ac, 8, 8), on(bd, 0, 0), Bnd(SHARE, 4, 4)),
-                rel(SUMS),
-                on(SUMS, 4, 4),
-            ),
-            (
-                61,
-                (on(ac, 0, 0), on(bd, 8, 8), Bnd(SHARE, 2, 2)),
-                rel(SUMS),
-                on(SUMS, 6, 6),
-            ),
-            (61, (half, half, Bnd(SHARE, 4, 4)), rel(SUMS), Nil),
-            (
-                61,
-                (zero(ac), on(bd, 4, 4), Bnd(SHARE, 0, 4)),
-                rel(SUMS),
-                on(SUMS, 4, 4),
-            ),
-            (
-                61,
-                (zero(ac), on(bd, 4, 4), Bnd(SHARE, 1, 8)),
-                rel(SUMS),
-                Void,
-            ),
-            (
-                61,
-                (half, zero(bd), Bnd(SHARE, 4, 8)),
-                rel(SUMS),
-                on(SUMS, 4, 4),
-            ),
-            (61, (half, zero(bd), Bnd(SHARE, 0, 4)), rel(SUMS), Void),
-            (61, (half, zero(bd), Bnd(SHARE, 0, 4)), void, Void),
-            (61, (half, zero(bd), Bnd(SHARE, 0, 8)), void, Nil),
-            (61, (zero(ac), zero(bd), Bnd(SHARE, 0, 8)), rel(SUMS), Void),
-            (61, (zero(ac), zero(bd), Bnd(SHARE, 0, 8)), void, Void),
-            (61, (zero(ac), on(bd, 4, 4), Bnd(SHARE, 1, 8)), void, Void),
-            (61, (zero(ac), zero(bd), Bnd(QUOTIENT, 0, 8)), void, Nil),
-        ],
-    );
+    try_rows(&rt, &dag, OPERATIONS);
     Ok(())
 }

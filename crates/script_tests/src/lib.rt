@@ -2,6 +2,8 @@
 #![tactic(auto)]
 
 #[cfg(test)]
+mod equals;
+#[cfg(test)]
 mod of_fixprog;
 #[cfg(test)]
 mod of_goal_spans;

@@ -1,5 +1,6 @@
 //! Programs with their scripts or first faults, worked out by hand.
 
+use crate::equals::holds;
 use fixprog::fault::{ProgFault, ProgKind, ProgStop};
 use fixprog::turn::turn;
 use std::alloc::Global;
@@ -20,7 +21,7 @@ fn is_fault(alloc: Global, text: &[u8], kind: ProgKind, at: u32) -> bool {
 
 #[test]
 fn programs_have_their_scripts(rt: HostRuntime) {
-    let rows: [(&[u8], &str); 4] = [
+    const ROWS: &[(&[u8], &str)] = &[
         (
             b"in x : s16.15 [0,0.5]; y : s16.15 dn = x * x; out y;",
             "y = fixed<-15,dn>(x * x);\n\
@@ -45,14 +46,14 @@ fn programs_have_their_scripts(rt: HostRuntime) {
             "y = fixed<-1,ne>(3);\n{ y in [0b-1, 7b-1] /\\ y in ? }\n",
         ),
     ];
-    for (text, script) in rows {
-        assert!(rt; is_turned(rt.alloc(), text, script), "{text:?}");
+    for (text, script) in ROWS {
+        holds(&rt, *text, is_turned(rt.alloc(), *text, script));
     }
 }
 
 #[test]
 fn texts_have_their_faults(rt: HostRuntime) {
-    let rows: [(&[u8], ProgKind, u32); 31] = [
+    const ROWS: &[(&[u8], ProgKind, u32)] = &[
         // one of each kind
         (b"in x\xff", ProgKind::NotText, 4),
         (b"in x:u1.0[0,1];out x;!", ProgKind::BadToken, 21),
@@ -109,7 +110,7 @@ fn texts_have_their_faults(rt: HostRuntime) {
         ),
         (b"y:u1.0 dn=1;out y;y", ProgKind::Unexpected, 18),
     ];
-    for (text, kind, at) in rows {
-        assert!(rt; is_fault(rt.alloc(), text, kind, at), "{text:?}");
+    for (text, kind, at) in ROWS {
+        holds(&rt, *text, is_fault(rt.alloc(), *text, *kind, *at));
     }
 }

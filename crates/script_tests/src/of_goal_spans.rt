@@ -2,6 +2,7 @@
 
 ghost use Rattle.std.specs.Prelude.{◌<◌, ◌^◌, length};
 
+use crate::equals::holds;
 use goal_spans::{Span, goal_spans, spans_are_read};
 use script_shape::shape::shape_of;
 use script_words::words::read_words;
@@ -21,6 +22,12 @@ fn has_spans(alloc: Global, text: &[u8], spans: &[Span]) -> Result<bool, AllocEr
 
 fn words(first: usize, end: usize) -> Span {
     Span { first, end }
+}
+
+fn spans_are(rt: &impl Abort, alloc: Global, text: &[u8], spans: &[Span]) -> Result<(), Fail> {
+    assert!(rt; text.len() < 1000);
+    holds(rt, text, has_spans(alloc, text, spans)?);
+    Ok(())
 }
 
 #[test]
@@ -52,9 +59,8 @@ fn each_goal_has_its_span(rt: HostRuntime) -> Result<(), Fail> {
         (b"{ @FIX(x, 3) /\\ y in ? }", &[words(1, 1), words(9, 10)]),
         (b"# nothing\nx = 1; { x <= 1 -> x <= 2 }", &[words(9, 10)]),
     ];
-    for (text, spans) in rows {
-        assert!(rt; text.len() < 1000);
-        assert!(rt; has_spans(rt.alloc(), text, spans)?, "{text:?}");
+    for (text, spans) in &rows {
+        spans_are(&rt, rt.alloc(), *text, *spans)?;
     }
     Ok(())
 }

@@ -1,5 +1,6 @@
 //! Points, and what is read of them. The faults are those of an independent program.
 
+use crate::equals::equal;
 use point_text::{PointFault, PointKind, PointStop, read_point};
 use script_grammar::{Script, parse};
 use std::alloc::Global;
@@ -9,7 +10,7 @@ const SCRIPT: &str = "{ x in ? /\\ y in ? }";
 // A text, the kind of its fault, and the byte at which it stands.
 type Row = (&'static str, PointKind, u32);
 
-const ROWS: [Row; 6] = [
+const ROWS: &[Row] = &[
     ("", PointKind::Missing, 0),
     ("x = 1; y = 2", PointKind::Unexpected, 12),
     ("x = 1; z = 2; !", PointKind::Unknown, 7),
@@ -51,11 +52,21 @@ fn rows_of(alloc: Global, point: &str) -> usize {
 #[test]
 fn faults_have_their_places(rt: HostRuntime) {
     for (point, kind, at) in ROWS {
-        assert_eq!(rt; fault_of(rt.alloc(), point), Some(PointFault { kind, at }));
+        let wanted = PointFault {
+            kind: *kind,
+            at: *at,
+        };
+        equal(
+            &rt,
+            point.as_bytes(),
+            fault_of(rt.alloc(), point),
+            Some(wanted),
+        );
     }
 }
 
 #[test]
 fn entries_stand_in_any_order(rt: HostRuntime) {
-    assert_eq!(rt; rows_of(rt.alloc(), "y = -1 / 3; x = +0x1p2; # both"), 2);
+    let point = "y = -1 / 3; x = +0x1p2; # both";
+    equal(&rt, point.as_bytes(), rows_of(rt.alloc(), point), 2);
 }

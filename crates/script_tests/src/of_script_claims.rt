@@ -4,6 +4,7 @@ ghost use Rattle.std.specs.Prelude.{◌<◌, length, Some};
 ghost use Rattle.literal_order.specs.Values.{IsWritten};
 ghost use Rattle.script_claims.specs.Facts.{HasNormalBounds};
 
+use crate::equals::{all_equal, holds};
 use dyadic::{Dyadic, End};
 use facts::{Fact, FixPlace, RelativeError, Slot};
 use fx_model::ExprId;
@@ -55,6 +56,13 @@ fn is_used_as(claim: Claim, fact: Option<Fact>, want: Want, slot: Slot) -> bool
     claim.hypothesis() == fact && claim.want() == want && claim.slot() == slot
 }
 
+// The claim's fact is this, what it wants, and what it is about.
+fn used_as(rt: &impl Abort, claim: Claim, fact: Option<Fact>, want: Want, slot: Slot)
+    requires { HasNormalBounds claim }
+{
+    holds(rt, b"a claim", is_used_as(claim, fact, want, slot));
+}
+
 #[test]
 fn bounds_are_rounded_outward_for_hypotheses(rt: HostRuntime) {
     hypotheses_hold();
@@ -68,29 +76,29 @@ fn bounds_are_rounded_outward_for_hypotheses(rt: HostRuntime) {
     let x = Slot::Bnd(X);
     let outer = Fact::bnd(X, range(&rt, below_tenth, (2, 0)));
     let inner = Want::Inside(range(&rt, above_tenth, (2, 0)));
-    assert!(rt; is_used_as(Claim::Bounded(X, Some(tenth), Some(two)), outer, inner, x));
+    used_as(
+        &rt,
+        Claim::Bounded(X, Some(tenth), Some(two)),
+        outer,
+        inner,
+        x,
+    );
     let around = Fact::bnd(X, range(&rt, below_tenth, above_tenth));
     let nothing = Want::Inside(None);
-    assert!(rt;
-        is_used_as(
-            Claim::Bounded(X, Some(tenth), Some(tenth)),
-            around,
-            nothing,
-            x
-        )
+    let at_tenth = Claim::Bounded(X, Some(tenth), Some(tenth));
+    used_as(&rt, at_tenth, around, nothing, x);
+    used_as(
+        &rt,
+        Claim::Bounded(X, Some(two), Some(tenth)),
+        None,
+        nothing,
+        x,
     );
-    assert!(rt; is_used_as(Claim::Bounded(X, Some(two), Some(tenth)), None, nothing, x));
     let at_most = Interval::new(End::Low, End::At(Dyadic::new(2, 0).expect(&rt, "2")));
     let above_nothing = Claim::Bounded(X, None, Some(two));
-    assert!(rt;
-        is_used_as(
-            above_nothing,
-            Fact::bnd(X, at_most),
-            Want::Inside(at_most),
-            x
-        )
-    );
-    assert!(rt; is_used_as(Claim::Asked(X), None, Want::Ask, x));
+    let fact = Fact::bnd(X, at_most);
+    used_as(&rt, above_nothing, fact, Want::Inside(at_most), x);
+    used_as(&rt, Claim::Asked(X), None, Want::Ask, x);
 }
 
 #[test]
@@ -101,15 +109,15 @@ fn relative_errors_and_multiples(rt: HostRuntime) {
     let error = RelativeError::new(half_up.expect(&rt, "an interval"));
     let related = Some(Fact::Rel(X, Y, error));
     let from_half = Claim::Relative(X, Y, written(&rt, "-1b-1"), two);
-    assert!(rt; is_used_as(from_half, related, Want::Inside(half_up), pair));
+    used_as(&rt, from_half, related, Want::Inside(half_up), pair);
     let from_one = Claim::Relative(X, Y, written(&rt, "-1"), two);
     let one_up = Want::Inside(range(&rt, (-1, 0), (2, 0)));
-    assert!(rt; is_used_as(from_one, None, one_up, pair));
-    assert!(rt; is_used_as(Claim::RelativeAsked(X, Y), None, Want::Ask, pair));
+    used_as(&rt, from_one, None, one_up, pair);
+    used_as(&rt, Claim::RelativeAsked(X, Y), None, Want::Ask, pair);
     let least = Fact::fix(X, FixPlace::new(-1024));
     let nothing = Want::Inside(None);
-    assert!(rt; is_used_as(Claim::Multiple(X, -1024), least, nothing, Slot::Fix(X)));
-    assert!(rt; is_used_as(Claim::Multiple(X, 513), None, nothing, Slot::Fix(X)));
+    used_as(&rt, Claim::Multiple(X, -1024), least, nothing, Slot::Fix(X));
+    used_as(&rt, Claim::Multiple(X, 513), None, nothing, Slot::Fix(X));
 }
 
 // What the formula of a text in braces claims.
@@ -126,6 +134,20 @@ fn claimed<'a>(alloc: Global, text: &'a [u8]) -> Result<ClaimReader<'a>, Fail>
         }
     }
     Ok(reader)
+}
+
+fn claims_are(
+    rt: &impl Abort,
+    alloc: Global,
+    text: &[u8],
+    hypotheses: &[Claim],
+    goals: &[Claim],
+) -> Result<(), Fail> {
+    assert!(rt; text.len() < 1000);
+    let reader = claimed(alloc, text)?;
+    all_equal(rt, text, reader.hypotheses(), hypotheses);
+    all_equal(rt, text, reader.goals(), goals);
+    Ok(())
 }
 
 #[test]
@@ -175,11 +197,8 @@ fn formulas_have_their_claims(rt: HostRuntime) -> Result<(), Fail> {
             ],
         ),
     ];
-    for (text, hypotheses, goals) in rows {
-        assert!(rt; text.len() < 1000);
-        let reader = claimed(rt.alloc(), text)?;
-        assert_eq!(rt; reader.hypotheses(), hypotheses, "{text:?}");
-        assert_eq!(rt; reader.goals(), goals, "{text:?}");
+    for (text, hypotheses, goals) in &rows {
+        claims_are(&rt, rt.alloc(), *text, *hypotheses, *goals)?;
     }
     Ok(())
 }
@@ -188,15 +207,11 @@ fn formulas_have_their_claims(rt: HostRuntime) -> Result<(), Fail> {
 fn a_denied_bound_is_a_strict_one(rt: HostRuntime) -> Result<(), Fail> {
     let one = written(&rt, "1");
     let two = written(&rt, "2");
-    let reader = claimed(
-        rt.alloc(),
-        b"{ not x <= 1 /\\ x <= 2 \\/ not y >= 1 -> x in ? }",
-    )?;
     let hypotheses = [
         Claim::Above(X, one),
         Claim::Bounded(X, None, Some(two)),
         Claim::Below(Y, one),
     ];
-    assert_eq!(rt; reader.hypotheses(), hypotheses.as_slice());
-    Ok(())
+    let text = b"{ not x <= 1 /\\ x <= 2 \\/ not y >= 1 -> x in ? }";
+    claims_are(&rt, rt.alloc(), text, &hypotheses, &[Claim::Asked(X)])
 }

@@ -2,6 +2,7 @@
 ghost use Rattle.std.specs.Prelude.{Some};
 ghost use Rattle.literal_order.specs.Values.{IsWritten};
 
+use crate::equals::{equal, holds};
 use fx_model::{Direction, ExprId, Node, Rounding};
 use literal::read;
 use literal_order::Written;
@@ -34,7 +35,7 @@ fn has_sizes(alloc: Global, text: &[u8], wanted: Sizes) -> bool {
 
 #[test]
 fn formulas_have_their_parts(rt: HostRuntime) {
-    let rows: [(&[u8], Sizes); 4] = [
+    const ROWS: &[(&[u8], Sizes)] = &[
         (
             b"{ x in [1,2] /\\ y in [3,5] -> x * y in ? }",
             (3, (2, 1), (0, 0), (0, 0)),
@@ -46,14 +47,14 @@ fn formulas_have_their_parts(rt: HostRuntime) {
         ),
         (b"{ 0.5 + 0.50 - 1b-1 in ? }", (4, (0, 1), (0, 0), (0, 0))),
     ];
-    for (text, wanted) in rows {
-        assert!(rt; has_sizes(rt.alloc(), text, wanted), "{text:?}");
+    for (text, wanted) in ROWS {
+        holds(&rt, *text, has_sizes(rt.alloc(), *text, *wanted));
     }
 }
 
 #[test]
 fn definitions_have_their_parts(rt: HostRuntime) {
-    let rows: [(&[u8], Sizes); 2] = [
+    const ROWS: &[(&[u8], Sizes)] = &[
         (
             b"@rnd = fixed<-4,dn>; y = rnd(x); { x in [0,1] -> y - x in ? }",
             (3, (1, 1), (0, 0), (0, 0)),
@@ -63,14 +64,14 @@ fn definitions_have_their_parts(rt: HostRuntime) {
             (5, (1, 1), (0, 0), (0, 0)),
         ),
     ];
-    for (text, wanted) in rows {
-        assert!(rt; has_sizes(rt.alloc(), text, wanted), "{text:?}");
+    for (text, wanted) in ROWS {
+        holds(&rt, *text, has_sizes(rt.alloc(), *text, *wanted));
     }
 }
 
 #[test]
 fn hints_have_their_parts(rt: HostRuntime) {
-    let rows: [(&[u8], Sizes); 3] = [
+    const ROWS: &[(&[u8], Sizes)] = &[
         (
             b"{ x in [0,1] -> x * (1 - x) in [0,0.3] } x * (1 - x) $ x;",
             (4, (1, 1), (0, 0), (0, 1)),
@@ -84,8 +85,8 @@ fn hints_have_their_parts(rt: HostRuntime) {
             (4, (1, 1), (1, 1), (0, 0)),
         ),
     ];
-    for (text, wanted) in rows {
-        assert!(rt; has_sizes(rt.alloc(), text, wanted), "{text:?}");
+    for (text, wanted) in ROWS {
+        holds(&rt, *text, has_sizes(rt.alloc(), *text, *wanted));
     }
 }
 
@@ -118,6 +119,17 @@ fn has_case(
     }
 }
 
+fn case_is(
+    rt: &(impl Abort + AllocGlobal),
+    text: &[u8],
+    count: usize,
+    number: usize,
+    wanted: &[Claim],
+) -> Result<(), Fail> {
+    holds(rt, text, has_case(rt.alloc(), text, count, number, wanted)?);
+    Ok(())
+}
+
 // The bound that digits write.
 fn bound(rt: &impl Abort, digits: &str) -> Written
     ensures { IsWritten (Some result) }
@@ -137,17 +149,16 @@ fn hypotheses_have_their_cases(rt: HostRuntime) -> Result<(), Fail> {
     let above = Claim::Above(ExprId(1), one);
     let below = Claim::Below(x, two);
     let none = b"{ x in ? }";
-    assert!(rt; has_case(rt.alloc(), none, 1, 0, [].as_slice())?);
+    case_is(&rt, none, 1, 0, &[])?;
     let conjunctions = b"{ x in [1,2] /\\ not y <= 1 \\/ not x >= 2 -> x in ? }";
-    assert!(rt; has_case(rt.alloc(), conjunctions, 2, 0, [first, above].as_slice())?);
-    assert!(rt; has_case(rt.alloc(), conjunctions, 2, 1, [below].as_slice())?);
+    case_is(&rt, conjunctions, 2, 0, &[first, above])?;
+    case_is(&rt, conjunctions, 2, 1, &[below])?;
     let parts =
         b"{ x in [1,2] \\/ not y <= 1 -> not x >= 2 -> not x >= 2 \\/ x in [1,2] -> x in ? }";
-    assert!(rt; has_case(rt.alloc(), parts, 4, 0, [first, below, below].as_slice())?);
-    assert!(rt; has_case(rt.alloc(), parts, 4, 1, [first, below, first].as_slice())?);
-    assert!(rt; has_case(rt.alloc(), parts, 4, 2, [above, below, below].as_slice())?);
-    assert!(rt; has_case(rt.alloc(), parts, 4, 3, [above, below, first].as_slice())?);
-    Ok(())
+    case_is(&rt, parts, 4, 0, &[first, below, below])?;
+    case_is(&rt, parts, 4, 1, &[first, below, first])?;
+    case_is(&rt, parts, 4, 2, &[above, below, below])?;
+    case_is(&rt, parts, 4, 3, &[above, below, first])
 }
 
 // Whether the node with the number is this one.
@@ -186,7 +197,8 @@ fn operations_of_a_definition_are_rounded(rt: HostRuntime) {
         Node::Mul(ExprId(1), ExprId(1)),
         Node::Round(rounding, ExprId(2)),
     ];
-    assert!(rt; spells_nodes(rt.alloc(), text, nodes, Claim::Asked(ExprId(3))));
+    let goal = Claim::Asked(ExprId(3));
+    holds(&rt, text, spells_nodes(rt.alloc(), text, nodes, goal));
 }
 
 // The refusal of a text.
@@ -199,16 +211,16 @@ fn refusal(alloc: Global, text: &[u8]) -> Option<Refusal> {
 
 #[test]
 fn other_texts_are_refused(rt: HostRuntime) {
-    let rows: [(&[u8], RefusalKind, u32); 3] = [
+    const ROWS: &[(&[u8], RefusalKind, u32)] = &[
         (b"{ x in [1,2", RefusalKind::Unexpected, 11),
         (b"{ x in [2,1] -> x in ? }", RefusalKind::BadBound, 10),
         (b"x = 1; x = 2; { x in ? }", RefusalKind::NameUsed, 7),
     ];
-    for (text, kind, at) in rows {
-        assert_eq!(rt;
-            refusal(rt.alloc(), text),
-            Some(Refusal { kind, at }),
-            "{text:?}"
-        );
+    for (text, kind, at) in ROWS {
+        let wanted = Refusal {
+            kind: *kind,
+            at: *at,
+        };
+        equal(&rt, *text, refusal(rt.alloc(), *text), Some(wanted));
     }
 }

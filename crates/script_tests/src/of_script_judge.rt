@@ -2,13 +2,25 @@
 
 ghost use Rattle.std.specs.Prelude.{◌<◌};
 
+use crate::equals::equal;
 use script_judge::{LimitKind, Refusal, RefusalKind, first_refusal};
 use std::alloc::{AllocError, Global};
+use std::process::Abort;
 use std::test::Fail;
+
+fn refusal_is(
+    rt: &impl Abort,
+    alloc: Global,
+    text: &[u8],
+    wanted: Option<Refusal>,
+) -> Result<(), Fail> {
+    equal(rt, text, first_refusal(alloc, text)?, wanted);
+    Ok(())
+}
 
 #[test]
 fn each_text_has_its_first_refusal(rt: HostRuntime) -> Result<(), Fail> {
-    let rows: [(&[u8], RefusalKind, u32); 69] = [
+    const ROWS: &[(&[u8], RefusalKind, u32)] = &[
         (b"", RefusalKind::Unexpected, 0),
         (b"{ x in [1,2", RefusalKind::Unexpected, 11),
         (b"{ x in [0,1] \\/ x in ? }", RefusalKind::FormulaForm, 13),
@@ -197,19 +209,19 @@ fn each_text_has_its_first_refusal(rt: HostRuntime) -> Result<(), Fail> {
             47,
         ),
     ];
-    for (text, kind, at) in rows {
-        assert_eq!(rt;
-            first_refusal(rt.alloc(), text)?,
-            Some(Refusal { kind, at }),
-            "{text:?}"
-        );
+    for (text, kind, at) in ROWS {
+        let wanted = Refusal {
+            kind: *kind,
+            at: *at,
+        };
+        refusal_is(&rt, rt.alloc(), *text, Some(wanted))?;
     }
     Ok(())
 }
 
 #[test]
 fn scripts_have_no_refusal(rt: HostRuntime) -> Result<(), Fail> {
-    let rows: [&[u8]; 13] = [
+    const ROWS: &[&[u8]] = &[
         b"{ x in ? }",
         b"@q = fixed<-15,dn>; x = q(xx); y q= x * x; My = x * x; { xx in [0,1] -> y - My in ? }",
         b"{ @FIX(a,-15) /\\ a in [0,1] -> |a| -/ 2 in ? } a -> b { b <> 0, a < 1 }; $ a in (0.5, 0.75);",
@@ -224,8 +236,8 @@ fn scripts_have_no_refusal(rt: HostRuntime) -> Result<(), Fail> {
         b"{ x in [0,1] -> y <= 1 \\/ not y >= 2 -> x in ? } $ x; x $ x;",
         b"{ x in [0,1] \\/ x in [0,1] -> x in ? } $ x in (0.25, 0.5);",
     ];
-    for text in rows {
-        assert_eq!(rt; first_refusal(rt.alloc(), text)?, None, "{text:?}");
+    for text in ROWS {
+        refusal_is(&rt, rt.alloc(), *text, None)?;
     }
     Ok(())
 }
@@ -245,36 +257,50 @@ fn nested(alloc: Global, depth: usize) -> Result<Vec<u8>, AllocError> {
     Ok(text)
 }
 
-#[test]
-fn nesting_and_bytes_past_their_limits_are_refused(rt: HostRuntime) -> Result<(), Fail> {
-    let within = nested(rt.alloc(), 64)?;
-    assert_eq!(rt; first_refusal(rt.alloc(), within.as_slice())?, None);
-    let beyond = nested(rt.alloc(), 65)?;
-    let refusal = Refusal {
-        kind: RefusalKind::Limit(LimitKind::Nesting),
-        at: 66,
-    };
-    assert_eq!(rt;
-        first_refusal(rt.alloc(), beyond.as_slice())?,
-        Some(refusal)
-    );
-    let mut text = Vec::new(rt.alloc());
+const NESTED: Refusal = Refusal {
+    kind: RefusalKind::Limit(LimitKind::Nesting),
+    at: 66,
+};
+
+// The refusal of a text that is nested so deep.
+fn nested_is(
+    rt: &impl Abort,
+    alloc: Global,
+    depth: usize,
+    wanted: Option<Refusal>,
+) -> Result<(), Fail> {
+    let text = nested(alloc, depth)?;
+    equal(rt, b"nested", first_refusal(alloc, &text)?, wanted);
+    Ok(())
+}
+
+// `{ `, and so many opening parentheses.
+fn opened(alloc: Global, depth: usize) -> Result<Vec<u8>, AllocError> {
+    let mut text = Vec::new(alloc);
     text.extend_from_slice(b"{ ".as_slice())?;
-    for _ in 0..1_048_574 {
+    for _ in 0..depth {
         text.push(b'(')?;
     }
-    let nested = Refusal {
-        kind: RefusalKind::Limit(LimitKind::Nesting),
-        at: 66,
-    };
-    assert_eq!(rt; first_refusal(rt.alloc(), text.as_slice())?, Some(nested));
-    text.push(b'(')?;
+    Ok(text)
+}
+
+// The refusal of a text of so many parentheses.
+fn opened_is(rt: &impl Abort, alloc: Global, depth: usize, wanted: Refusal) -> Result<(), Fail> {
+    let text = opened(alloc, depth)?;
+    equal(rt, b"opened", first_refusal(alloc, &text)?, Some(wanted));
+    Ok(())
+}
+
+#[test]
+fn nesting_and_bytes_past_their_limits_are_refused(rt: HostRuntime) -> Result<(), Fail> {
+    nested_is(&rt, rt.alloc(), 64, None)?;
+    nested_is(&rt, rt.alloc(), 65, Some(NESTED))?;
+    opened_is(&rt, rt.alloc(), 1_048_574, NESTED)?;
     let longer = Refusal {
         kind: RefusalKind::Limit(LimitKind::Bytes),
         at: 1_048_576,
     };
-    assert_eq!(rt; first_refusal(rt.alloc(), text.as_slice())?, Some(longer));
-    Ok(())
+    opened_is(&rt, rt.alloc(), 1_048_575, longer)
 }
 
 /// `{ x<=1`, so often `\\/x<=1`, and ` -> x<=1 \\/ x<=1 -> x in ? }`.
@@ -288,23 +314,21 @@ fn disjoined(alloc: Global, more: usize) -> Result<Vec<u8>, AllocError> {
     Ok(text)
 }
 
+// The refusal of a text with so many more cases, or the byte at which it has too many.
+fn cases_are(rt: &impl Abort, alloc: Global, more: usize, past: Option<u32>) -> Result<(), Fail> {
+    let text = disjoined(alloc, more)?;
+    let kind = RefusalKind::Limit(LimitKind::Cases);
+    let wanted = match past {
+        Some(at) => Some(Refusal { kind, at }),
+        None => None,
+    };
+    equal(rt, b"cases", first_refusal(alloc, &text)?, wanted);
+    Ok(())
+}
+
 #[test]
 fn more_than_64_cases_are_refused(rt: HostRuntime) -> Result<(), Fail> {
-    let within = disjoined(rt.alloc(), 31)?;
-    assert_eq!(rt; first_refusal(rt.alloc(), within.as_slice())?, None);
-    let beyond = disjoined(rt.alloc(), 32)?;
-    let refusal = |at: u32| Refusal {
-        kind: RefusalKind::Limit(LimitKind::Cases),
-        at,
-    };
-    assert_eq!(rt;
-        first_refusal(rt.alloc(), beyond.as_slice())?,
-        Some(refusal(207))
-    );
-    let more = disjoined(rt.alloc(), 80)?;
-    assert_eq!(rt;
-        first_refusal(rt.alloc(), more.as_slice())?,
-        Some(refusal(384))
-    );
-    Ok(())
+    cases_are(&rt, rt.alloc(), 31, None)?;
+    cases_are(&rt, rt.alloc(), 32, Some(207))?;
+    cases_are(&rt, rt.alloc(), 80, Some(384))
 }

@@ -2,11 +2,13 @@
 
 ghost use Rattle.std.specs.Prelude.{◌<◌, ◌^◌, length};
 
+use crate::equals::{all_equal, equal};
 use fx_model::{Direction, ExprId, Literal, Node, Rounding};
 use script_nodes::definitions::{Definitions, definitions_of};
 use script_shape::shape::shape_of;
 use script_words::words::read_words;
 use std::alloc::Global;
+use std::process::Abort;
 use std::test::Fail;
 
 fn read<'a>(alloc: Global, text: &'a [u8]) -> Result<Definitions<'a>, Fail>
@@ -54,6 +56,13 @@ fn div(x: u16, y: u16) -> Node {
     Node::Div(ExprId(x), ExprId(y))
 }
 
+fn nodes_are(rt: &impl Abort, alloc: Global, text: &[u8], wanted: &[Node]) -> Result<(), Fail> {
+    assert!(rt; text.len() < 1000);
+    let found = nodes(alloc, text)?;
+    all_equal(rt, text, found.as_slice(), wanted);
+    Ok(())
+}
+
 #[test]
 fn nodes_stand_in_the_order_of_reading(rt: HostRuntime) -> Result<(), Fail> {
     let x = Node::Var(0);
@@ -91,10 +100,8 @@ fn nodes_stand_in_the_order_of_reading(rt: HostRuntime) -> Result<(), Fail> {
         (b"y = x; z = y + w;", &[x, y, add(0, 1)]),
         (b"z = x / y; { x in ? }", &[x, y, div(0, 1)]),
     ];
-    for (text, wanted) in rows {
-        assert!(rt; text.len() < 1000);
-        let found = nodes(rt.alloc(), text)?;
-        assert_eq!(rt; found.as_slice(), wanted, "{text:?}");
+    for (text, wanted) in &rows {
+        nodes_are(&rt, rt.alloc(), *text, *wanted)?;
     }
     Ok(())
 }
@@ -147,10 +154,8 @@ fn roundings_have_their_nodes(rt: HostRuntime) -> Result<(), Fail> {
             &[x, round(512, Direction::Nu, 0), Node::Neg(ExprId(1))],
         ),
     ];
-    for (text, wanted) in rows {
-        assert!(rt; text.len() < 1000);
-        let found = nodes(rt.alloc(), text)?;
-        assert_eq!(rt; found.as_slice(), wanted, "{text:?}");
+    for (text, wanted) in &rows {
+        nodes_are(&rt, rt.alloc(), *text, *wanted)?;
     }
     Ok(())
 }
@@ -159,14 +164,14 @@ fn roundings_have_their_nodes(rt: HostRuntime) -> Result<(), Fail> {
 fn names_have_their_nodes_and_operators(rt: HostRuntime) -> Result<(), Fail> {
     let definitions = read(rt.alloc(), b"@q = int<up>; y = x; z q= y * y;")?;
     let reader = definitions.reader();
-    assert_eq!(rt; reader.value(b"y".as_slice()), Some(ExprId(0)));
-    assert_eq!(rt; reader.value(b"z".as_slice()), Some(ExprId(2)));
-    assert_eq!(rt; reader.value(b"x".as_slice()), None);
+    equal(&rt, b"y", reader.value(b"y".as_slice()), Some(ExprId(0)));
+    equal(&rt, b"z", reader.value(b"z".as_slice()), Some(ExprId(2)));
+    equal(&rt, b"x", reader.value(b"x".as_slice()), None);
     let rounding = Rounding {
         lsb: 0,
         dir: Direction::Up,
     };
-    assert_eq!(rt; reader.operator(b"q".as_slice()), rounding);
-    assert_eq!(rt; reader.variables().len(), 1);
+    equal(&rt, b"q", reader.operator(b"q".as_slice()), rounding);
+    equal(&rt, b"variables", reader.variables().len(), 1);
     Ok(())
 }

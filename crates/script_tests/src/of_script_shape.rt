@@ -2,9 +2,11 @@
 
 ghost use Rattle.std.specs.Prelude.{◌<◌, ◌^◌, length};
 
+use crate::equals::equal;
 use script_shape::shape::shape_of;
 use script_words::words::read_words;
 use std::alloc::{AllocError, Global};
+use std::process::Abort;
 use std::test::Fail;
 
 /// The place of the first word that is not taken, of a byte that begins no token, or of an end that
@@ -24,22 +26,32 @@ fn fault(alloc: Global, text: &[u8]) -> Result<Option<usize>, AllocError>
     Ok(if shape.whole { None } else { Some(text.len()) })
 }
 
+fn fault_is(
+    rt: &impl Abort,
+    alloc: Global,
+    text: &[u8],
+    wanted: Option<usize>,
+) -> Result<(), Fail> {
+    assert!(rt; text.len() < 1000);
+    equal(rt, text, fault(alloc, text)?, wanted);
+    Ok(())
+}
+
 #[test]
 fn scripts_have_no_fault(rt: HostRuntime) -> Result<(), Fail> {
-    let rows: [&[u8]; 2] = [
+    const ROWS: &[&[u8]] = &[
         b"{ x in [0,1] \\/ not x <= 3 -> x in ? }",
         b"@q = fixed<0,dn>; a q= x * 1; { q(x) in ? } x -> y { x <> 0 }; $ x in (1,2);",
     ];
-    for text in rows {
-        assert!(rt; text.len() < 1000);
-        assert_eq!(rt; fault(rt.alloc(), text)?, None, "{text:?}");
+    for text in ROWS {
+        fault_is(&rt, rt.alloc(), *text, None)?;
     }
     Ok(())
 }
 
 #[test]
 fn each_text_has_its_first_fault(rt: HostRuntime) -> Result<(), Fail> {
-    let rows: [(&[u8], usize); 26] = [
+    const ROWS: &[(&[u8], usize)] = &[
         (b"", 0),
         (b"{ x in [1,2", 11),
         (b"{ x in [0,1] \\/ \\/ x in ? }", 16),
@@ -67,9 +79,8 @@ fn each_text_has_its_first_fault(rt: HostRuntime) -> Result<(), Fail> {
         (b"{ x in ? } $ x in ();", 19),
         (b"{ @FIX(x) in ? }", 8),
     ];
-    for (text, at) in rows {
-        assert!(rt; text.len() < 1000);
-        assert_eq!(rt; fault(rt.alloc(), text)?, Some(at), "{text:?}");
+    for (text, at) in ROWS {
+        fault_is(&rt, rt.alloc(), *text, Some(*at))?;
     }
     Ok(())
 }

@@ -2,9 +2,11 @@
 
 ghost use Rattle.std.specs.Prelude.{◌<◌, ◌^◌, length};
 
+use crate::equals::{all_equal, equal};
 use script_words::class::{Number, Spelled, Symbol};
 use script_words::words::{Word, read_words};
 use std::alloc::{AllocError, Global};
+use std::process::Abort;
 use std::test::Fail;
 
 /// The texts of the tokens, each with a line feed behind it, and the first byte that begins none.
@@ -22,9 +24,23 @@ fn lexed(alloc: Global, text: &[u8]) -> Result<(Vec<u8>, Option<u32>), AllocErro
     Ok((joined, read.bad))
 }
 
+fn tokens_are(
+    rt: &impl Abort,
+    alloc: Global,
+    text: &[u8],
+    tokens: &[u8],
+    bad: Option<u32>,
+) -> Result<(), Fail> {
+    assert!(rt; text.len() < 1000);
+    let (joined, at) = lexed(alloc, text)?;
+    all_equal(rt, text, joined.as_slice(), tokens);
+    equal(rt, text, at, bad);
+    Ok(())
+}
+
 #[test]
 fn tokens_of_texts(rt: HostRuntime) -> Result<(), Fail> {
-    let rows: [(&[u8], &[u8], Option<u32>); 42] = [
+    const ROWS: &[(&[u8], &[u8], Option<u32>)] = &[
         (b"", b"", None),
         (b" \t\r\n", b"", None),
         (b"# no line feed", b"", None),
@@ -76,11 +92,8 @@ fn tokens_of_texts(rt: HostRuntime) -> Result<(), Fail> {
         (b"7\xff", b"7\n", Some(1)),
         (b"!", b"", Some(0)),
     ];
-    for (text, tokens, bad) in rows {
-        assert!(rt; text.len() < 1000);
-        let (joined, at) = lexed(rt.alloc(), text)?;
-        assert_eq!(rt; joined.as_slice(), tokens, "{text:?}");
-        assert_eq!(rt; at, bad, "{text:?}");
+    for (text, tokens, bad) in ROWS {
+        tokens_are(&rt, rt.alloc(), *text, *tokens, *bad)?;
     }
     Ok(())
 }
@@ -117,9 +130,16 @@ fn letters(alloc: Global, text: &[u8]) -> Result<Vec<u8>, AllocError>
     Ok(found)
 }
 
+fn letters_are(rt: &impl Abort, alloc: Global, text: &[u8], wanted: &[u8]) -> Result<(), Fail> {
+    assert!(rt; text.len() < 1000);
+    let found = letters(alloc, text)?;
+    all_equal(rt, text, found.as_slice(), wanted);
+    Ok(())
+}
+
 #[test]
 fn words_of_texts(rt: HostRuntime) -> Result<(), Fail> {
-    let rows: [(&[u8], &[u8]); 14] = [
+    const ROWS: &[(&[u8], &[u8])] = &[
         (
             b"x FIX FIXx dn dna zr aw up od ne no nz na nd nu",
             b"nfndndddddddddd",
@@ -139,10 +159,8 @@ fn words_of_texts(rt: HostRuntime) -> Result<(), Fail> {
         (b"@q = 1; @q = 2; q", b"@n=1;@N=1;N"),
         (b"@dn = 1; @FIX = 2; dn FIX up", b"@d=1;@f=1;DFd"),
     ];
-    for (text, wanted) in rows {
-        assert!(rt; text.len() < 1000);
-        let found = letters(rt.alloc(), text)?;
-        assert_eq!(rt; found.as_slice(), wanted, "{text:?}");
+    for (text, wanted) in ROWS {
+        letters_are(&rt, rt.alloc(), *text, *wanted)?;
     }
     Ok(())
 }
