@@ -69,10 +69,12 @@ class Command(unittest.TestCase):
             (row[0], row[1]) for row in re.findall(r"^  (-?[0-9.e-]+) +(-?[0-9.]+)  ", out, re.M)
         ]
 
-    def test_equal_shares(self):
+    def test_adding_shares(self):
+        """Five truncated products: a share is what the coefficient's low bits leave."""
         status, out, _ = shares(example("fir_filter"), "--unit", "2^-15")
         self.assertEqual(status, 0)
-        self.assertEqual(self.rows(out), [("1", "20")] * 5 + [("0", "0")])
+        outer, inner, middle = ("0.9375", "22.1"), ("0.75", "17.7"), ("0.875", "20.6")
+        self.assertEqual(self.rows(out), [outer, inner, middle, inner, outer, ("0", "0")])
         self.assertIn("add up to the width", out)
 
     def test_idle_roundings(self):
@@ -108,7 +110,7 @@ class Command(unittest.TestCase):
             for words in (
                 [],
                 ["no.such.file"],
-                [script, "--goal", "3"],
+                [script, "--goal", "30"],
                 [script, "--unit", "x"],
                 [plain],
                 [open_],

@@ -1,5 +1,6 @@
-# Between 1 and 2 a double has 52 fraction bits, so that rounding to nearest is that of fixed<-52,ne>.
-# The goals with bounds show that the exact results do lie there. 1.1 is no double: c is what the compiler makes of it.
+# Between 1 and 2 a double has 52 fraction bits: rounding to nearest is that of fixed<-52,ne>.
+# The goals with bounds show that the exact results do lie there. 1.1 is no double: c is what the
+# compiler makes of it.
 @d = fixed<-52,ne>;
 c = 0x1.199999999999ap0;
 p d= c * x;
