@@ -1,11 +1,11 @@
 #!/usr/bin/env python3
-"""Counts the lines of code, definitions and proofs past 100 columns, whose numbers only fall.
+"""Counts lines past 100 columns, of code, definitions, proofs and pages: the numbers only fall.
 
 Use, in the repository:   python3 tools/widths.py [--all | --write]
 
 Ends with 1, and prints a line for each fault, where a count is above its number in
 tools/widths.txt. Else it prints nothing.
-  --all     prints a line for each crate that has such lines, too, and the counts
+  --all     prints a line for each crate and each page that has such lines, too, and the counts
   --write   lowers the numbers of tools/widths.txt to the counts; it raises none
 """
 import os
@@ -28,6 +28,20 @@ def wide(name, part):
     return found
 
 
+def pages(top=TOP):
+    """How many lines of each page are too wide: of each .md that isn't made by a build."""
+    found = {}
+    for at, folders, files in os.walk(top):
+        folders[:] = sorted(it for it in folders if it not in (".git", "out", "open"))
+        for file in sorted(files):
+            if file.endswith(".md"):
+                with open(f"{at}/{file}", encoding="utf-8") as it:
+                    number = sum(len(line.rstrip("\n")) > MOST for line in it)
+                if number:
+                    found[os.path.relpath(f"{at}/{file}", top)] = number
+    return found
+
+
 def main(words):
     if len(words) > 1 or words[:1] not in ([], ["--all"], ["--write"]):
         print(__doc__, end="", file=sys.stderr)
@@ -35,10 +49,14 @@ def main(words):
     names = sorted(os.listdir(f"{TOP}/crates"))
     each = {name: {part: wide(name, part) for part in PARTS} for name in names}
     found = {part: sum(it[part] for it in each.values()) for part in PARTS}
+    texts = pages()
+    found["pages"] = sum(texts.values())
     if words == ["--all"]:
         for name in sorted(names, key=lambda it: sum(each[it].values())):
             if any(each[name].values()):
                 print(f"{name}: " + ", ".join(f"{part} {each[name][part]}" for part in PARTS))
+        for name in sorted(texts, key=texts.get):
+            print(f"{name}: {texts[name]}")
         print(", ".join(f"{part} {number}" for part, number in found.items()))
     with open(NUMBERS, encoding="utf-8") as it:
         text = it.read()
