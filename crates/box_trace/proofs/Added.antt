@@ -253,12 +253,13 @@ row_map u P Q f row r = record {
 }
 
 pub by_map : (u : World) (P Q : ℕ → Type 0) → ((n : ℕ) → P n → Q n)
-    → (rows : List StepRow) → AllByRecursion (IsByInstance u P) rows → AllByRecursion (IsByInstance u Q) rows
+    → (rows : List StepRow) → AllByRecursion (IsByInstance u P) rows
+    → AllByRecursion (IsByInstance u Q) rows
 by_map u P Q f rows w = all_as (IsByInstance u P) (IsByInstance u Q) (row_map u P Q f) rows w
 
 -- What stands before all of them stands before each.
-pub each_later : (u : World) (Given : ℕ → Type 0) (first n next : ℕ) (rows : List StepRow) → n ≤ next
-    → AllByRecursion (IsByInstance u (IsEarlier Given first n)) rows
+pub each_later : (u : World) (Given : ℕ → Type 0) (first n next : ℕ) (rows : List StepRow)
+    → n ≤ next → AllByRecursion (IsByInstance u (IsEarlier Given first n)) rows
     → AreFromEarlier u Given first next rows
 each_later u Given first n next [] l w = tt
 each_later u Given first n next (row ∷ rows) l w = (

@@ -59,7 +59,10 @@ comes_given u old rule arg premises c new g a d e f w =
 pub met_given : (g : Given) (o : Option Fact) (c : Fact) (met : Option Fact)
     → IsMet (given_number g) o c met → met ≡ o
 met_given g o c met w =
-    elim w [ inl e ↦ e | inr e ↦ absurd (none_some g (given_of (given_number g)) e.0 (given_back g)) ]
+    elim w [
+      | inl e ↦ e
+      | inr e ↦ absurd (none_some g (given_of (given_number g)) e.0 (given_back g))
+    ]
 
 module _ (rule : ℕ) (o : Option Fact) (c : Fact) (met : Option Fact) (w : IsMet rule o c met) where
   met_known : (h : Fact) → met ≡ Some h → o ≡ Some h
@@ -146,8 +149,9 @@ module _ (u : World) (cut : Option Fact) (s : Numbered) (old new : Log) (rule ar
 
   -- what the rule gives is enough for c to come, where it is met with this
   abbrev pub SufficesWith : List Fact → Option Fact → Type 0
-  SufficesWith ps met = IsEnough (met_with (gives (givens_of (setting_of u) u.hints cut) (Row met) ps
-      (met_by met c)) (met_by met c)) (joined met c)
+  SufficesWith ps met = IsEnough
+      (met_with (gives (givens_of (setting_of u) u.hints cut) (Row met) ps (met_by met c))
+      (met_by met c)) (joined met c)
 
   -- the same, whatever it is met with
   abbrev pub Suffices : List Fact → Type 0
@@ -206,7 +210,8 @@ module _ (u : World) (cut : Option Fact) (s : Numbered) (old new : Log) (rule ar
           next = i.next ∙ sym w.first;
           traced = record {
             accepted = subst (AreAccepted g s) (sym w.steps)
-                (accepted_both g s old.steps.items (Row w.met ∷ []) i.traced.accepted (concluded, tt));
+                (accepted_both g s old.steps.items (Row w.met ∷ []) i.traced.accepted
+                (concluded, tt));
             placed = step_placed i;
           };
           fields = subst HaveFields (sym w.steps) (fields_more old.steps.items (Row w.met) i.fields

@@ -39,7 +39,8 @@ from_joined u Given first next (x ∷ xs) ys v w =
 -- ---- one instance
 -- What is known is as strong.
 pub beaten_improves : (u : World) → IsEachOnce u.pairs → (log : Log)
-    → IsProper (known_at u log.known) → (place : ℕ) (c : Fact) → IsPlace (length u.nodes) u.pairs (slot_of c) place
+    → IsProper (known_at u log.known) → (place : ℕ) (c : Fact)
+    → IsPlace (length u.nodes) u.pairs (slot_of c) place
     → IsBeaten (row_in log.known.rows.items (Some place)) c true
     → (k : Fact) × Improves (known_at u log.known) (known_at u log.known) c k
 beaten_improves u once log proper place c p b =

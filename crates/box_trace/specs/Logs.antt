@@ -50,8 +50,8 @@ IsQuietFrom u at changed = at slot.Void ≡ None → (x : ExprId) → changed �
 abbrev pub kept_in : World → Log → Fact → Fact
 kept_in u log c = joined (known_at u log.known (slot_of c)) c
 
--- What the step of c by this rule is met with, where that stood on its slot: that; or nothing, where
--- c isn't given, and is what is kept.
+-- What the step of c by this rule is met with, where that stood on its slot: that; or nothing,
+-- where c isn't given, and is what is kept.
 abbrev pub IsMet : ℕ → Option Fact → Fact → Option Fact → Type 0
 IsMet rule o c met = (met ≡ o) ⊎ ((given_of rule ≡ None) × (met ≡ None) × (joined o c ≡ c))
 

@@ -79,9 +79,9 @@ fn kept(found: Option<Cited>, c: Fact) -> Option<Fact>
     }
 }
 
-// The number of the step that the one of a fact, which comes by this rule, is met with: that of what
-// stands in the row; but nothing where the fact alone is as strong. What is given is met always,
-// since a cut's piece may leave more than what is known.
+// The number of the step that the one of a fact, which comes by this rule, is met with: that of
+// what stands in the row; but nothing where the fact alone is as strong. What is given is met
+// always, since a cut's piece may leave more than what is known.
 fn met_number(found: Option<Cited>, c: &Fact, rule: u8) -> Option<u64>
     ensures { IsMetBy rule found c.now result }
 {
