@@ -29,7 +29,7 @@ returns-in_ok-text-in-Unproved c =
     (c.in-Unproved.boxes, subst (ComesTo s o) c.in-Unproved.is c.requires.comes) in
     let told = c.in_ok-text-in-Unproved.ensures o.depth c.requires.cases in (
       (λ e. cc e),
-      (s, leaf, told.0, c.laws.ensures.spelled, unproved, told.1.0, told.1.1),
+      (s, leaf, told.0, c.laws.ensures.spelled, unproved, told.1, told.2),
     )
 
 pub returns-in_ok-lines-in-Leaves : goal.returns-in_ok-lines-in-Leaves
