@@ -104,7 +104,7 @@ fn put_fails(
     let run = Run {
         text,
         failing_reads,
-        failing_puts: &[done as u64 + 1],
+        failing_puts: &[(done as u64).saturating_add(1)],
         most: 1,
     };
     let front = line.get(..done).unwrap_or("");
