@@ -49,8 +49,8 @@ fn written(rt: &impl Abort, text: &str, negative: bool) -> Written
     }
 }
 
-const REWRITING: &[u8] =
-    b"{ x in ? } x -> y { y <> 0, x - y < 0.1, x >= -5 }; y -> x; x -> x { x < 5, y > -5b1, y <= +0.1 };";
+const REWRITING: &[u8] = b"{ x in ? } x -> y { y <> 0, x - y < 0.1, x >= -5 }; y -> x; \
+    x -> x { x < 5, y > -5b1, y <= +0.1 };";
 
 // The sides of the rewriting, and its constraints.
 fn rewrite_is(
