@@ -51,8 +51,8 @@ pub fn scripts_have_roots()
     few_cuts_end();
 }
 
-/// Nothing is done. The clauses tell a caller that for each script that is proved there is a
-/// certificate over all its cases which the checker accepts for it with its lines, and bytes that
+/// For readers alone; nothing is done. The clauses say that for each script that is proved there is
+/// a certificate over all its cases which the checker accepts for it with its lines, and bytes that
 /// spell it. They say so whether or not memory is found to write it.
 pub fn answers_have_certificates()
     ensures certificates { AnswersHaveCertificates }

@@ -30,8 +30,9 @@ pub fn known_facts_hold()
     ensures boxes { SettledBoxesHold }
 {}
 
-/// Nothing is done. The clause tells a caller that the order of hypotheses and of instances doesn't
-/// matter: two settings with the same ones know the same facts, and their boxes come to the same.
+/// For readers alone; nothing is done. The clause says that the order of hypotheses and of
+/// instances doesn't matter: two settings with the same ones know the same facts, and their boxes
+/// come to the same.
 pub fn known_facts_are_of_sets()
     ensures { KnownFactsAreOfSets }
 {}

@@ -31,7 +31,7 @@ pub fn ranges()
         → ¬ Lies s zero_ℚ → IsQuotient r s (quotient_range r s) }
 {}
 
-/// Nothing is done. The clauses tell a caller that the best results make intervals.
+/// For readers alone; nothing is done. The clauses say that the best results make intervals.
 pub fn ranges_are_ordered()
     ensures sum { (r s : Range) → IsOrdered r.low r.high → IsOrdered s.low s.high
         → IsOrdered (sum_range r s).low (sum_range r s).high }

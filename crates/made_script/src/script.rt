@@ -71,9 +71,9 @@ pub fn made_script(alloc: Global, n: u8) -> Result<Vec<u8>, AllocError>
     Ok(text)
 }
 
-/// Nothing is done. The clauses tell a caller how the polynomial of degree `n` is written: from the
-/// last power on it is a literal, and from an earlier one on it is what it is from the next one on,
-/// times x, and a literal.
+/// For readers alone; nothing is done. The clauses say how the polynomial of degree `n` is written:
+/// from the last power on it is a literal, and from an earlier one on it is what it is from the
+/// next one on, times x, and a literal.
 pub fn polynomials_are_nested()
     ensures last { spec.EndsInALiteral }
     ensures nested { spec.AreNested }

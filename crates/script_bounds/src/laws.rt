@@ -29,8 +29,8 @@ pub fn inward_is_greatest()
         → (i : View) × (inward_of r ≡ Some i) × Within (range_of k) (range_of i) }
 {}
 
-/// Nothing is done. The clauses tell a caller that a number of the grid is at most the end, or
-/// below it, exactly where it is so to the written bound.
+/// For readers alone; nothing is done. The clauses say that a number of the grid is at most the
+/// end, or below it, exactly where it is so to the written bound.
 pub fn needs_are_exact()
     ensures below { (w : Written) (g : Fraction) → IsOnGrid g
         → IsUnder (bound_of (below_of w true).0) (below_of w true).1 g ↔ (g <ℚ written_value w) }

@@ -7,9 +7,9 @@ use rewrite_hints::rows_are_true;
 use script_claims::{goals_are_enough, hypotheses_hold};
 use script_meets::met_scripts;
 
-/// Nothing is done. The clauses tell a caller that the lines of an accepted certificate, and of
-/// bytes that are accepted, hold of every assignment that meets the script; and that its goals are
-/// true of it.
+/// For readers alone; nothing is done. The clauses say that the lines of an accepted certificate,
+/// and of bytes that are accepted, hold of every assignment that meets the script; and that its
+/// goals are true of it.
 pub fn accepted_lines_hold_of_scripts()
     ensures items { AcceptedHoldsOfScripts }
     ensures bytes { CheckedHoldsOfScripts }

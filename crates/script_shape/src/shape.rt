@@ -104,12 +104,12 @@ pub fn may_follow(alloc: Global, words: WordList<'_, '_>, next: Class) -> Result
     Ok(step(&mut stack, next)?.is_some())
 }
 
-/// The law of the words that may come next.
+/// For readers alone, the law of the words that may come next.
 pub fn next_is_exact()
     ensures { NextIsExact }
 {}
 
-/// The law of the stack.
+/// For readers alone, the law of the stack.
 pub fn stack_is_exact()
     ensures { ShapeIsExact }
 {}

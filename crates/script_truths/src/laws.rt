@@ -46,8 +46,8 @@ pub fn what_is_written_is_true()
     hypotheses_hold();
 }
 
-/// Nothing is done. The clauses tell a caller that the facts of a script's hypotheses, its goals
-/// and the rows of its hints are about its nodes.
+/// For readers alone; nothing is done. The clauses say that the facts of a script's hypotheses, its
+/// goals and the rows of its hints are about its nodes.
 pub fn what_is_written_names_nodes()
     ensures facts { FactsAreNamed }
     ensures goals { GoalsAreNamed }

@@ -211,7 +211,7 @@ pub fn read_words<'a>(alloc: Global, text: &'a [u8]) -> Result<Words<'a>, AllocE
     })
 }
 
-/// A text is one list of words at most.
+/// For readers alone: a text is one list of words at most.
 pub fn words_once()
     ensures { IsOneList }
 {}

@@ -57,8 +57,8 @@ pub fn open_leaves_are_first()
     cases_answer_once();
 }
 
-/// Nothing is done. The clauses tell a caller that a script of one case comes to what the tree of
-/// that case comes to.
+/// For readers alone; nothing is done. The clauses say that a script of one case comes to what the
+/// tree of that case comes to.
 pub fn one_case_is_all()
     ensures comes { OneCaseIsAll }
     ensures proved { ProvedInOneCase }
