@@ -8,11 +8,7 @@ use Rattle.std.proofs.lemmas.Int.{ints}
 use Rattle.fx_model.specs.Fraction.{Fraction, ◌*ℚ◌, le_antisymm, neg_ℚ, neg-neg, neg-mul, mul_comm}
 use Rattle.fx_model.specs.Fraction.{mul_assoc}
 use Rattle.fx_model.specs.Powers.{scaled, two_to, whole, whole-mul, two_to-add, IsMultiple}
-use Rattle.fx_model.specs.Grid.{Bound, IsDown, Binary, signed, scaled-neg, Below, At, Above}
-
--- 2^60
-abbrev pub mantissa_limit : ℤ
-mantissa_limit = pos 1152921504606846976
+use Rattle.fx_model.specs.Grid.{Bound, IsDown, signed, scaled-neg, Below, At, Above}
 
 pub IsDown-unique : (x : Fraction) (a b : Bound) → IsDown x a → IsDown x b → a ≡ b
 IsDown-unique x (At g) (At h) p q =
@@ -23,10 +19,6 @@ IsDown-unique x Below (At g) p q = absurd (p g q.0 q.1)
 IsDown-unique x Below Below p q = cc
 IsDown-unique x Below Above p q = absurd q
 IsDown-unique x Above b p q = absurd p
-
--- mantissa * 2^exponent
-abbrev pub value_of : Binary → Fraction
-value_of b = scaled b.mantissa b.exponent
 
 -- ---- the other sign
 pub multiple-neg : (k : ℤ) (x : Fraction) → IsMultiple k x → IsMultiple k (neg_ℚ x)

@@ -45,11 +45,6 @@ IsUp x (At g) = IsOnGrid g × (x ≤ℚ g) × ((h : Fraction) → IsOnGrid h →
 IsUp x Above = (h : Fraction) → IsOnGrid h → ¬ (x ≤ℚ h)
 IsUp x Below = ⊥
 
--- A binary number mantissa * 2^exponent, as it is kept.
-pub record Binary : Type 0 where
-  pub mantissa : ℤ
-  pub exponent : ℤ
-
 -- ---- the other sign
 abbrev pub neg_bound : Bound → Bound
 neg_bound Below = Above

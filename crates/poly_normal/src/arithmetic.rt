@@ -138,14 +138,6 @@ pub fn product(alloc: Global, p: &Terms, q: &Terms) -> Result<Terms, AllocError>
     product_between(alloc, p, 0, p.len(), q)
 }
 
-/// How many terms a polynomial has, once like terms are joined.
-pub fn term_count(p: &Terms) -> usize
-    requires { IsRising (polynomial_of p.now) }
-    ensures { result ≡ polynomial.term_count (polynomial_of p.now) }
-{
-    p.len()
-}
-
 /// Whether two polynomials are equal.
 pub fn is_equal(p: &Terms, q: &Terms) -> bool
     requires widths { p.now.width ≡ q.now.width }
