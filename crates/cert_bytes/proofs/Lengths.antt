@@ -27,7 +27,7 @@ use Rattle.cert_bytes.specs.Spelling.{points, end, interval, error, fact_bytes, 
 use Rattle.cert_bytes.specs.Spelling.{optional, claim_bytes, cited_bytes, step_bytes, spelling}
 use Rattle.cert_bytes.specs.Spelling.{spelled_from}
 use Rattle.cert_bytes.proofs.Digits.{digits_most, digits_some, digits_below}
-use Rattle.cert_bytes.proofs.Back.{length_high}
+use Rattle.cert_bytes.proofs.NumberFormats.{length_high}
 
 -- ---- fields
 

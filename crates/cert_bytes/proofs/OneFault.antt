@@ -1,11 +1,9 @@
 -- Bytes spell items or have one first fault, never both.
-use Rattle.std.proofs.Common.{◌≡◌, ◌≤◌, ◌<◌, ◌+◌, ◌++◌, ◌∷◌, [], ◌⊎◌, inl, inr, ⊎_elim, ◌==◌}
-use Rattle.std.proofs.Common.{if◌then◌else◌, true, ℕ, zero, suc, List, length, Some, Ok, Err, refl}
+use Rattle.std.proofs.Common.{◌≡◌, ◌≤◌, ◌<◌, ◌+◌, ◌++◌, ◌∷◌, [], ◌⊎◌, inl, inr, ⊎_elim}
+use Rattle.std.proofs.Common.{ℕ, zero, suc, List, length, Some, Ok, Err, refl}
 use Rattle.std.proofs.Common.{sym, ap, subst, ◌∙◌, arith}
 use Rattle.std.proofs.lemmas.List.{append-nil, length-append}
 use Rattle.cert_bytes.specs.declared.fault.CertFault.{CertFault}
-use Rattle.cert_bytes.specs.declared.fault.CertKind.TheVariants.{BadTag, BadCount}
-use Rattle.cert_bytes.specs.declared.style.Seen.{Seen}
 use Rattle.cert_bytes.specs.declared.item.Item.{Item}
 use Rattle.cert_bytes.specs.declared.item.Item.TheVariants as item
 use Rattle.cert_bytes.specs.declared.style.Style.{Style}
@@ -15,20 +13,17 @@ use Rattle.cert_bytes.specs.declared.order.DueItem.{DueItem}
 use Rattle.cert_bytes.specs.declared.order.DueItem.TheVariants.{Head, Nodes, Marks, Sections, Done}
 use Rattle.cert_bytes.specs.Due.{due_after, due_behind}
 use Rattle.cert_bytes.specs.Certificates.{AreDue}
-use Rattle.cert_bytes.specs.Reading.{Cursor, Read, cursor, styled, fault, byte_at, long_at}
-use Rattle.cert_bytes.specs.Reading.{same_count_at, counts_at, trailer_at, more_at, end_item_at}
+use Rattle.cert_bytes.specs.Reading.{Cursor, Read, cursor, styled, trailer_at, more_at, end_item_at}
 use Rattle.cert_bytes.specs.Reading.{closed_at, entry_at, item_at, ◌>>=◌}
-use Rattle.cert_bytes.specs.ReadBack.{place, ReadsTo}
+use Rattle.cert_bytes.specs.ReadBack.{place}
 use Rattle.cert_bytes.specs.ReadOut.{AreBytes, IsRead, AreRead, FailsBehind, ReadsAreSpelled}
 use Rattle.cert_bytes.specs.ReadOut.{SpelledAreRead, SpellOrFail, NeverBoth, OneFault}
-use Rattle.cert_bytes.specs.Spelling.{based, trailer, spelling, spelled_from}
-use Rattle.cert_bytes.proofs.BackItems.{items_read_back}
+use Rattle.cert_bytes.specs.Spelling.{trailer, spelling, spelled_from}
 use Rattle.cert_bytes.proofs.Lengths.{items_have_a_byte}
 use Rattle.cert_bytes.proofs.Paced.{few_at_first, fewer_than}
-use Rattle.cert_bytes.proofs.Back.{then_to, last_to, byte_back, count_back}
-use Rattle.cert_bytes.proofs.Out.{bind_out, ok_parts}
-use Rattle.cert_bytes.proofs.OutEnds.{closed_out}
-use Rattle.cert_bytes.proofs.OutItems.{items_read_out, behind_after, last_way}
+use Rattle.cert_bytes.proofs.Format.{bind_out, ok_parts}
+use Rattle.cert_bytes.proofs.HeadFormats.{a_trailer, closed_out}
+use Rattle.cert_bytes.proofs.ItemFormats.{items_read_back, items_read_out, behind_after, last_way}
 use Rattle.cert_bytes.proofs.Whole.{some_same, due_some, none_behind, end_alone, is_end, not_head}
 use Rattle.cert_bytes.proofs.Whole.{same_style}
 
@@ -124,35 +119,6 @@ reads_are_spelled bytes items b a =
 
 -- ---- what is spelled is read
 
-same_count_back : (n : ℕ) (seen : Seen) → n ≤ 18446744073709551615
-    → ReadsTo (Second seen) (Second seen) (same_count_at n) (based n) tt
-unfolding same_count_at
-same_count_back n seen l = last_to long_at (λ at k c. if k == n
-    then Ok (tt, c) else fault BadCount at) (Second seen) (Second seen) (Second seen) (based n) n tt
-    (count_back n seen l) (λ at own rest. let e : (n == n) ≡ true = grind arith in rw e refl)
-
--- the trailer, where its counts have room
-trailer_back : (style : Style) (at : ℕ)
-    → IsFew style at → at ≤ 17592186044416 → (seen : Seen) → style ≡ Second seen
-    → ReadsTo (Second seen) (Second seen) (trailer_at seen) (trailer (Second seen)) tt
-unfolding trailer_at counts_at same_count_at
-trailer_back First at f l seen z = cc
-trailer_back (Second other) at f l seen z =
-    let same : other ≡ seen = cc in
-    let few : (seen.steps ≤ at) × (seen.sections ≤ at) =
-    subst (λ (seen : Seen). (seen.steps ≤ at) × (seen.sections ≤ at)) same f in
-    let steps = few.0 in let sections = few.1 in
-    then_to byte_at (λ at tag c. if tag == 6 then counts_at seen c else fault BadTag at)
-    (Second seen) (Second seen) (Second seen) (6 ∷ [])
-    (based seen.sections ++ based seen.steps) 6 tt (byte_back 6 (Second seen))
-    (λ own. then_to (same_count_at seen.sections)
-    (λ at x c. same_count_at seen.steps c >>= λ steps. Ok (tt, steps.1)) (Second seen) (Second seen)
-    (Second seen) (based seen.sections) (based seen.steps) tt tt
-    (same_count_back seen.sections seen (omega (arith, sections, l)))
-    (λ own. last_to (same_count_at seen.steps)
-    (λ at x c. Ok (tt, c)) (Second seen) (Second seen) (Second seen) (based seen.steps) tt tt
-    (same_count_back seen.steps seen (omega (arith, steps, l))) (λ at own rest. refl)))
-
 -- the end, behind which nothing is
 ended : (style : Style) (at : ℕ)
     → end_item_at (place style at []) ≡ Ok (item.End, place style at [])
@@ -166,7 +132,9 @@ unfolding closed_at
 closed First at f l = ended First at
     ∙ ap (λ (n : ℕ). Ok (item.End, place First n [])) (let e : at ≡ at + 0 = omega arith in e)
 closed (Second seen) at f l =
-    let read = trailer_back (Second seen) at f (omega (arith, l)) seen refl at [] l in
+    let steps = f.0 in let sections = f.1 in
+    let read = (a_trailer seen).back tt (omega (arith, sections, l), omega (arith, steps, l))
+    (Second seen) at [] l in
     ap (λ (s : List ℕ). trailer_at seen (place (Second seen) at s)
     >>= λ trailer. end_item_at trailer.1) (sym (append-nil (trailer (Second seen))))
     ∙ ap (λ q. q >>= λ trailer. end_item_at trailer.1) read

@@ -15,7 +15,7 @@ use Rattle.cert_bytes.specs.Certificates.{HasSpelling, Fits, AreDue, NoneBeginsA
 use Rattle.cert_bytes.specs.Reading.{Cursor, Read, item_at}
 use Rattle.cert_bytes.specs.ReadBack.{place}
 use Rattle.cert_bytes.specs.Spelling.{spelling, spelled_from}
-use Rattle.cert_bytes.proofs.BackItems.{items_read_back}
+use Rattle.cert_bytes.proofs.ItemFormats.{items_read_back}
 use Rattle.cert_bytes.proofs.Lengths.{items_are_short}
 
 -- ---- what is due
@@ -43,28 +43,12 @@ end_alone (Sections (suc n)) e q = cc
 end_alone Done e q = cc
 
 only_end : (j : Item) (f : DueItem) → due_after (Sections 0) j ≡ Some f → j ≡ item.End
-only_end (item.Nodes n) f q = cc
-only_end (item.Node n) f q = cc
-only_end (item.Marks n) f q = cc
-only_end (item.Mark m) f q = cc
-only_end (item.Cases n) f q = cc
-only_end (item.Step s) f q = cc
-only_end (item.Cut x ps) f q = cc
-only_end (item.Leaf refs) f q = cc
-only_end (item.Dead r) f q = cc
 only_end item.End f q = refl
+only_end j f q = cc
 
 pub is_end : (i : Item) → (i ≡ item.End) ⊎ (¬ (i ≡ item.End))
-is_end (item.Nodes n) = inr (λ e. cc)
-is_end (item.Node n) = inr (λ e. cc)
-is_end (item.Marks n) = inr (λ e. cc)
-is_end (item.Mark m) = inr (λ e. cc)
-is_end (item.Cases n) = inr (λ e. cc)
-is_end (item.Step s) = inr (λ e. cc)
-is_end (item.Cut x ps) = inr (λ e. cc)
-is_end (item.Leaf refs) = inr (λ e. cc)
-is_end (item.Dead r) = inr (λ e. cc)
 is_end item.End = inl refl
+is_end i = inr (λ e. cc)
 
 -- nothing stands before the head
 pub not_head : (d : DueItem) (i : Item) → ¬ (due_after d i ≡ Some Head)
