@@ -123,14 +123,6 @@ restated {r = r} {F = F} f G of to = record {
   };
 }
 
--- what is asked of a value said otherwise
-pub asked : {A : Type 0} {r : Cursor → Read A} {spells : A → Bytes} {Is : A → Type 0}
-    → Format r (whole spells Is) → (So : A → Type 0) → ((x : A) → So x → Is x)
-    → ((x : A) → Is x → So x) → Format r (whole spells So)
-asked {spells = spells} f So of to = restated f (whole spells So)
-    (λ x s. (x, of x s, same_as refl (λ old. refl)))
-    (λ x i. (x, to x i, same_as refl (λ old. refl)))
-
 -- ---- one behind another
 
 -- a value, and behind it one that may depend on it
@@ -524,15 +516,6 @@ way {B = B} {spells = spells} {Is = Is} {tag = tag} {r = r} {q = q} k {gives = g
       s.behind,
     )
     by false t c next y b e = others.out c next y b e
-
--- ways to more values
-pub opened : {B : Type 0} {spells : B → Bytes} {Is More : B → Type 0} {tag : ℕ}
-    {r : Cursor → Read B} → ((y : B) → Is y → More y) → Ways spells Is tag r
-    → Ways spells More tag r
-opened more w = record {
-  out = λ c next y b e. let q = w.out c next y b e in
-      (more y q.0, q.1, q.2, q.3);
-}
 
 -- What is spelled of a value is read by its tag.
 abbrev pub Told : {B : Type 0} → (ℕ → ℕ → Cursor → Read B) → (B → Bytes) → B → Type 0

@@ -17,7 +17,7 @@ use Rattle.cert_bytes.specs.declared.style.Style.{Style}
 use Rattle.cert_bytes.specs.declared.order.DueItem.{DueItem}
 use Rattle.cert_bytes.specs.declared.order.DueItem.TheVariants.{Head, Nodes, Marks, Sections, Done}
 use Rattle.cert_bytes.specs.Styles.{style_after, Opens, IsStyleFor}
-use Rattle.cert_bytes.specs.Due.{due_after, due_behind, split_into, IsOfSection, IsOfRoot}
+use Rattle.cert_bytes.specs.Due.{due_after, due_behind, split_into, IsOfSection}
 use Rattle.cert_bytes.specs.Certificates.{HasSpelling, Fits, HasShortParts, IsShort}
 use Rattle.cert_bytes.specs.Reading.{Cursor, Read, styled, fault, step_item_at, leaf_at, dead_at}
 use Rattle.cert_bytes.specs.Reading.{section_by, section_item_at, cases_at, root_by, root_item_at}
@@ -27,15 +27,13 @@ use Rattle.cert_bytes.specs.Reading.{item_at, ◌>>=◌}
 use Rattle.cert_bytes.specs.ReadBack.{ReadsTo, ItemsReadBack}
 use Rattle.cert_bytes.specs.ReadOut.{AreBytes, IsRead, ItemsReadOut, DueBehind}
 use Rattle.cert_bytes.specs.Spelling.{node_bytes, short, spelling}
-use Rattle.cert_bytes.proofs.Format.{plain, whole, Format, IsOne, same_as, through, restated, asked, made}
-use Rattle.cert_bytes.proofs.Format.{bind_out, ok_parts, nothing, tags, Ways, way, opened, no_way}
+use Rattle.cert_bytes.proofs.Format.{plain, whole, Format, IsOne, same_as, through, restated, made}
+use Rattle.cert_bytes.proofs.Format.{bind_out, ok_parts, nothing, tags, Ways, way, no_way}
 use Rattle.cert_bytes.proofs.Format.{Told, told}
 use Rattle.cert_bytes.proofs.NumberFormats.{a_short, a_reference}
 use Rattle.cert_bytes.proofs.NodeFormats.{a_node}
 use Rattle.cert_bytes.proofs.StepFormats.{a_counted, IsStep, a_step, IsCut, a_cut, a_case_count}
 use Rattle.cert_bytes.proofs.HeadFormats.{a_head, closed_out}
-
--- ---- items of sections
 
 -- it has a spelling, and its numbers have room
 abbrev IsSpelled : Item → Type 0
@@ -49,60 +47,6 @@ step_of s i = let room = i.1 in
 -- a cut's parts
 cut_of : (x : ExprId) (ps : List Dyadic) → IsSpelled (item.Cut x ps) → IsCut (x, ps)
 cut_of x ps i = (i.1.0, (i.0, i.1.1.0, i.1.1.1))
-
-section_ways : (at tag : ℕ)
-    → Ways spelling (λ i. IsOfSection i × IsSpelled i) tag (section_by at tag)
-unfolding section_by step_item_at leaf_at dead_at
-section_ways at tag =
-    way 1 (made a_step item.Step) (λ s old. refl) (λ s i. (
-      tt,
-      (
-        i.1.1.0,
-        record {
-          rule = i.0.0.0;
-          arg = i.0.0.1;
-          fact = i.0.1;
-          with = i.1.0;
-          premises = i.1.1.1;
-        },
-      ),
-    ))
-    (way 2 a_cut (λ v old. refl) (λ v i. (tt, (i.1.0, (i.0, (i.1.1, i.1.2)))))
-    (way 3 (made a_counted item.Leaf) (λ refs old. refl) (λ refs i. (tt, i))
-    (way 4 (made a_reference item.Dead) (λ r old. refl) (λ r i. (tt, (tt, i)))
-    (no_way tag BadTag at))))
-
-a_section_item : Format section_item_at (whole spelling (λ i. IsOfSection i × IsSpelled i))
-unfolding section_item_at section_by step_item_at leaf_at dead_at
-a_section_item = tags section_by back section_ways
-  where
-    back : (i : Item) → IsOfSection i × IsSpelled i → Told section_by spelling i
-    back (item.Step s) i = told section_by 1 (λ at. made a_step item.Step) s (step_of s i.1)
-    back (item.Cut x ps) i = told section_by 2 (λ at. a_cut) (x, ps) (cut_of x ps i.1)
-    back (item.Leaf refs) i = told section_by 3 (λ at. made a_counted item.Leaf) refs i.1
-    back (item.Dead r) i = told section_by 4 (λ at. made a_reference item.Dead) r i.1.1
-    back j i = absurd i.0
-
-a_root_item : Format root_item_at (whole spelling (λ i. IsOfRoot i × IsSpelled i))
-unfolding root_item_at root_by section_by cases_at step_item_at leaf_at dead_at
-a_root_item = tags root_by back (λ at tag.
-    way 5 (made a_case_count item.Cases) (λ n old. refl) (λ n i. (tt, (i, tt)))
-    (opened (λ i p. (root_of i p.0, p.1)) (section_ways at tag)))
-  where
-    root_of : (i : Item) → IsOfSection i → IsOfRoot i
-    root_of (item.Step s) o = tt
-    root_of (item.Cut x ps) o = tt
-    root_of (item.Leaf refs) o = tt
-    root_of (item.Dead r) o = tt
-    root_of i o = absurd o
-
-    back : (i : Item) → IsOfRoot i × IsSpelled i → Told root_by spelling i
-    back (item.Cases n) i = told root_by 5 (λ at. made a_case_count item.Cases) n i.1.0
-    back (item.Step s) i = told root_by 1 (λ at. made a_step item.Step) s (step_of s i.1)
-    back (item.Cut x ps) i = told root_by 2 (λ at. a_cut) (x, ps) (cut_of x ps i.1)
-    back (item.Leaf refs) i = told root_by 3 (λ at. made a_counted item.Leaf) refs i.1
-    back (item.Dead r) i = told root_by 4 (λ at. made a_reference item.Dead) r i.1.1
-    back j i = absurd i.0
 
 -- ---- the item that is due
 
@@ -142,39 +86,6 @@ behind_after (Sections (suc w)) (item.Dead r) e q =
     ap (λ d. Some d) (ap Sections (let e : w ≡ w + 0 = omega arith in e) ∙ split_on 0 w)
 behind_after (Sections zero) item.End e q = refl
 behind_after d i e q = cc
-
--- an item of a section is due there, and no other
-section_due : (w : ℕ) (i : Item) → IsOfSection i
-    → due_after (Sections (suc w)) i ≡ Some (due_behind (Sections (suc w)) i)
-section_due w (item.Step s) o = behind_after (Sections (suc w)) (item.Step s) _ refl
-section_due w (item.Cut x ps) o = behind_after (Sections (suc w)) (item.Cut x ps) _ refl
-section_due w (item.Leaf refs) o = behind_after (Sections (suc w)) (item.Leaf refs) _ refl
-section_due w (item.Dead r) o = behind_after (Sections (suc w)) (item.Dead r) _ refl
-section_due w i o = absurd o
-
-due_in_section : (w : ℕ) (i : Item) (e : DueItem) → due_after (Sections (suc w)) i ≡ Some e
-    → IsOfSection i
-due_in_section w (item.Step s) e q = tt
-due_in_section w (item.Cut x ps) e q = tt
-due_in_section w (item.Leaf refs) e q = tt
-due_in_section w (item.Dead r) e q = tt
-due_in_section w i e q = cc
-
-root_due : (i : Item) → IsOfRoot i → due_after (Marks zero) i ≡ Some (due_behind (Marks zero) i)
-root_due (item.Cases n) o = refl
-root_due (item.Step s) o = refl
-root_due (item.Cut x ps) o = refl
-root_due (item.Leaf refs) o = refl
-root_due (item.Dead r) o = refl
-root_due i o = absurd o
-
-due_at_root : (i : Item) (e : DueItem) → due_after (Marks zero) i ≡ Some e → IsOfRoot i
-due_at_root (item.Cases n) e q = tt
-due_at_root (item.Step s) e q = tt
-due_at_root (item.Cut x ps) e q = tt
-due_at_root (item.Leaf refs) e q = tt
-due_at_root (item.Dead r) e q = tt
-due_at_root i e q = cc
 
 node_entry : (k : ℕ) → Format node_item_at (whole spelling (IsDueAt (Nodes (suc k))))
 unfolding node_item_at
@@ -223,6 +134,70 @@ mark_entry k = tags mark_by back (λ at tag.
     back (item.Mark Assumed) i = told mark_by 1 (λ at. nothing (item.Mark Assumed)) tt tt
     back j i = cc
 
+-- an item of a section, where one is due
+section_ways : (d : DueItem) → ((i : Item) → IsOfSection i → due_after d i ≡ Some (due_behind d i))
+    → (at tag : ℕ) → Ways spelling (IsDueAt d) tag (section_by at tag)
+unfolding section_by step_item_at leaf_at dead_at
+section_ways d due at tag =
+    way 1 (made a_step item.Step) (λ s old. refl) (λ s i. (
+      due (item.Step s) tt,
+      (
+        i.1.1.0,
+        record {
+          rule = i.0.0.0;
+          arg = i.0.0.1;
+          fact = i.0.1;
+          with = i.1.0;
+          premises = i.1.1.1;
+        },
+      ),
+    ))
+    (way 2 a_cut (λ v old. refl)
+    (λ v i. (due (item.Cut v.0 v.1) tt, (i.1.0, (i.0, (i.1.1, i.1.2)))))
+    (way 3 (made a_counted item.Leaf) (λ refs old. refl) (λ refs i. (due (item.Leaf refs) tt, i))
+    (way 4 (made a_reference item.Dead) (λ r old. refl) (λ r i. (due (item.Dead r) tt, (tt, i)))
+    (no_way tag BadTag at))))
+
+section_entry : (w : ℕ) → Format section_item_at (whole spelling (IsDueAt (Sections (suc w))))
+unfolding section_item_at section_by step_item_at leaf_at dead_at
+section_entry w = tags section_by back (section_ways (Sections (suc w)) due)
+  where
+    due : (i : Item) → IsOfSection i
+        → due_after (Sections (suc w)) i ≡ Some (due_behind (Sections (suc w)) i)
+    due (item.Step s) o = behind_after (Sections (suc w)) (item.Step s) _ refl
+    due (item.Cut x ps) o = behind_after (Sections (suc w)) (item.Cut x ps) _ refl
+    due (item.Leaf refs) o = behind_after (Sections (suc w)) (item.Leaf refs) _ refl
+    due (item.Dead r) o = behind_after (Sections (suc w)) (item.Dead r) _ refl
+    due i o = absurd o
+
+    back : (i : Item) → IsDueAt (Sections (suc w)) i → Told section_by spelling i
+    back (item.Step s) i = told section_by 1 (λ at. made a_step item.Step) s (step_of s i.1)
+    back (item.Cut x ps) i = told section_by 2 (λ at. a_cut) (x, ps) (cut_of x ps i.1)
+    back (item.Leaf refs) i = told section_by 3 (λ at. made a_counted item.Leaf) refs i.1
+    back (item.Dead r) i = told section_by 4 (λ at. made a_reference item.Dead) r i.1.1
+    back j i = cc
+
+root_entry : Format root_item_at (whole spelling (IsDueAt (Marks zero)))
+unfolding root_item_at root_by section_by cases_at step_item_at leaf_at dead_at
+root_entry = tags root_by back (λ at tag.
+    way 5 (made a_case_count item.Cases) (λ n old. refl) (λ n i. (refl, (i, tt)))
+    (section_ways (Marks zero) due at tag))
+  where
+    due : (i : Item) → IsOfSection i → due_after (Marks zero) i ≡ Some (due_behind (Marks zero) i)
+    due (item.Step s) o = refl
+    due (item.Cut x ps) o = refl
+    due (item.Leaf refs) o = refl
+    due (item.Dead r) o = refl
+    due i o = absurd o
+
+    back : (i : Item) → IsDueAt (Marks zero) i → Told root_by spelling i
+    back (item.Cases n) i = told root_by 5 (λ at. made a_case_count item.Cases) n i.1.0
+    back (item.Step s) i = told root_by 1 (λ at. made a_step item.Step) s (step_of s i.1)
+    back (item.Cut x ps) i = told root_by 2 (λ at. a_cut) (x, ps) (cut_of x ps i.1)
+    back (item.Leaf refs) i = told root_by 3 (λ at. made a_counted item.Leaf) refs i.1
+    back (item.Dead r) i = told root_by 4 (λ at. made a_reference item.Dead) r i.1.1
+    back j i = cc
+
 -- an item within a certificate, in the style of the numbers before it
 abbrev IsInside : DueItem → Type 0
 IsInside (Nodes k) = ⊤
@@ -234,13 +209,9 @@ an_entry : (d : DueItem) → IsInside d → Format (entry_at d) (whole spelling 
 unfolding entry_at node_or_marks_at mark_or_section_at section_or_end_at
 an_entry (Nodes zero) h = marks_entry
 an_entry (Nodes (suc k)) h = through (node_entry k) (λ c. rw (some_left k) refl)
-an_entry (Marks zero) h = asked a_root_item (IsDueAt (Marks zero))
-    (λ i p. (due_at_root i (due_behind (Marks zero) i) p.0, p.1))
-    (λ i p. (root_due i p.0, p.1))
+an_entry (Marks zero) h = root_entry
 an_entry (Marks (suc k)) h = through (mark_entry k) (λ c. rw (some_left k) refl)
-an_entry (Sections (suc w)) h = through (asked a_section_item (IsDueAt (Sections (suc w)))
-    (λ i p. (due_in_section w i (due_behind (Sections (suc w)) i) p.0, p.1))
-    (λ i p. (section_due w i p.0, p.1))) (λ c. rw (some_left w) refl)
+an_entry (Sections (suc w)) h = through (section_entry w) (λ c. rw (some_left w) refl)
 an_entry d h = absurd h
 
 -- ---- the head and the end

@@ -3,7 +3,7 @@ use mir.Val.{bits, hbits}
 use mir.ValLaws.{of_z_fits, to_z-Fits}
 use Rattle.std.proofs.Common.{◌≡◌, ◌≤◌, ◌<◌, ◌+◌, ◌-◌, ◌*◌, ◌/◌, ◌%◌, ◌^◌, ◌++◌, ◌∷◌, [], ◌==◌}
 use Rattle.std.proofs.Common.{◌&&◌, ◌⊎◌, inl, inr, if◌then◌else◌, ⊎_elim, ℕ, zero, suc, ℤ, pos, negsuc, ◌≤ℤ◌}
-use Rattle.std.proofs.Common.{Bool, true, false, length, Option, Some, None, Ok, Err, refl}
+use Rattle.std.proofs.Common.{Bool, true, false, List, length, Option, Some, None, Ok, Err, refl}
 use Rattle.std.proofs.Common.{sym, ap, ap₂, subst, ◌∙◌, arith, lit<, lit≤, ltb-true, leb-true}
 use Rattle.std.specs.Prelude.{nat_le, nat_lt}
 use Rattle.std.specs.Int.{Width, w16, w64, bytes_high_first, byte_at as digit_at, cast_unsigned}
@@ -340,14 +340,6 @@ folded n most c = by (digits_at n 1 0 c)
 
 -- ---- numbers by their style
 
--- Fields of numbers up to `most`, which have `width` bytes in version 1, and in version 2 so many
--- at most.
-pub record HaveRoom (width bytes most : ℕ) : Type 0 where
-  pub room : 256 ^ width ≡ most + 1
-  pub some : 0 < bytes
-  pub few : bytes ≤ 19
-  pub small : most < 128 ^ bytes
-
 abbrev pub sized_bytes : ℕ → ℕ → Bytes
 sized_bytes width n First = bytes_high_first width n
 sized_bytes width n (Second seen) = based n
@@ -366,46 +358,41 @@ based_number bytes most some few small = through (placed (λ at.
         (whole (λ n old. based n) (λ n. n ≤ most)) n n
     same n = same_as (let e : 0 + 1 * n ≡ n = omega arith in e) (λ old. refl)
 
-pub sized : (width bytes most : ℕ) → HaveRoom width bytes most
-    → Format (sized_at width bytes most) (sized_form width most)
+-- Numbers up to `most`: they have `width` bytes in version 1, and in version 2 so many at most.
+pub sized : (width bytes most : ℕ) → 256 ^ width ≡ most + 1 → 0 < bytes → bytes ≤ 19
+    → most < 128 ^ bytes → Format (sized_at width bytes most) (sized_form width most)
 unfolding sized_at
-sized width bytes most h = record {
-  back = λ n l old. back n l old;
-  out = λ c next n b e.
-      by c next n b c.style refl e;
-}
+sized width bytes most room some few small =
+    record { back = back; out = λ c next n b e. by c next n b c.style refl e }
   where
     second : Format (based_at bytes most) (whole (λ n old. based n) (λ n. n ≤ most))
-    second = based_number bytes most h.some h.few h.small
+    second = based_number bytes most some few small
 
     back : (n : ℕ) → n ≤ most → (old : Style)
         → ReadsTo old old (sized_at width bytes most) (sized_bytes width n old) n
-    back n l First at rest r =
-        let room = h.room in (number width).back n (omega (arith, l, room)) First at rest r
+    back n l First at rest r = (number width).back n (omega (arith, l, room)) First at rest r
     back n l (Second seen) at rest r = second.back n l (Second seen) at rest r
 
-    by : (c next : Cursor) (n : ℕ) → AreBytes c.rest → (style : Style) → c.style ≡ style
-        → sized_by style width bytes most c ≡ Ok (n, next) → Stands (sized_form width most) c next n
-    by c next n b First z e =
-        let s = (number width).out c next n b e in
-        let i = s.is in let room = h.room in record {
-          value = s.value;
-          is = omega (arith, i, room);
-          given = s.given;
-          bytes = s.bytes
-              ∙ ap (λ (style : Style). sized_bytes width s.value style ++ next.rest) (sym z);
-          style = s.style;
-          behind = s.behind;
-        }
-    by c next n b (Second seen) z e = let s = second.out c next n b e in record {
+    in_style : {spells : ℕ → Bytes} {P : ℕ → Type 0} (c next : Cursor) (n : ℕ)
+        (s : Stands (whole spells P) c next n) → s.value ≤ most
+        → spells s.value c.style ≡ sized_bytes width s.value c.style
+        → Stands (sized_form width most) c next n
+    in_style c next n s l e = record {
       value = s.value;
-      is = s.is;
+      is = l;
       given = s.given;
-      bytes = s.bytes
-          ∙ ap (λ (style : Style). sized_bytes width s.value style ++ next.rest) (sym z);
+      bytes = s.bytes ∙ ap (λ (bytes : List ℕ). bytes ++ next.rest) e;
       style = s.style;
       behind = s.behind;
     }
+
+    by : (c next : Cursor) (n : ℕ) → AreBytes c.rest → (style : Style) → c.style ≡ style
+        → sized_by style width bytes most c ≡ Ok (n, next) → Stands (sized_form width most) c next n
+    by c next n b First z e = let s = (number width).out c next n b e in let i = s.is in
+        in_style c next n s (omega (arith, i, room))
+        (ap (λ (style : Style). sized_bytes width s.value style) (sym z))
+    by c next n b (Second seen) z e = let s = second.out c next n b e in
+        in_style c next n s s.is (ap (λ (style : Style). sized_bytes width s.value style) (sym z))
 
 -- ---- fields
 
@@ -420,28 +407,17 @@ named width most spells Is of to same f = restated f (whole spells Is)
     said : (n : ℕ) → n ≤ most → IsSame (sized_form width most) (whole spells Is) n n
     said n l = same_as refl (same n l)
 
-one_room : HaveRoom 1 10 255
-one_room = record { room = refl; some = lit< tt; few = lit≤ tt; small = lit< tt }
-
-two_room : HaveRoom 2 10 65535
-two_room = record { room = refl; some = lit< tt; few = lit≤ tt; small = lit< tt }
-
-eight_room : HaveRoom 8 10 18446744073709551615
-eight_room = record { room = refl; some = lit< tt; few = lit≤ tt; small = lit< tt }
-
-sixteen_room : HaveRoom 16 19 340282366920938463463374607431768211455
-sixteen_room = record { room = refl; some = lit< tt; few = lit≤ tt; small = lit< tt }
-
 pub a_tiny : Format tiny_at (whole tiny (λ n. n ≤ 255))
 unfolding tiny
-a_tiny = named 1 255 tiny (λ n. n ≤ 255) (λ n l. l) (λ n l. l) same (sized 1 10 255 one_room)
+a_tiny = named 1 255 tiny (λ n. n ≤ 255) (λ n l. l) (λ n l. l) same
+    (sized 1 10 255 refl (lit< tt) (lit≤ tt) (lit< tt))
   where
     same : (n : ℕ) → n ≤ 255 → (old : Style) → sized_bytes 1 n old ≡ tiny n old
     same n l First = ap (λ (b : ℕ). b ∷ []) (mod-eq_of_lt (omega (arith, l)))
     same n l (Second seen) = refl
 
 two : Format short_at (sized_form 2 65535)
-two = sized 2 10 65535 two_room
+two = sized 2 10 65535 refl (lit< tt) (lit≤ tt) (lit< tt)
 
 pub a_short : Format short_at (whole short IsShort)
 unfolding short
@@ -452,13 +428,13 @@ a_short = named 2 65535 short IsShort (λ n l. omega (arith, l)) (λ n l. omega 
     same n l (Second seen) = refl
 
 pub a_long : Format long_at (sized_form 8 18446744073709551615)
-a_long = sized 8 10 18446744073709551615 eight_room
+a_long = sized 8 10 18446744073709551615 refl (lit< tt) (lit≤ tt) (lit< tt)
 
 pub a_wide : Format wide_at (whole wide (λ n. n < 2 ^ 128))
 unfolding wide
 a_wide = named 16 340282366920938463463374607431768211455 wide (λ n. n < 2 ^ 128)
     (λ n l. omega (arith, l)) (λ n l. omega (arith, l)) same
-    (sized 16 19 340282366920938463463374607431768211455 sixteen_room)
+    (sized 16 19 340282366920938463463374607431768211455 refl (lit< tt) (lit≤ tt) (lit< tt))
   where
     same : (n : ℕ) → n ≤ 340282366920938463463374607431768211455 → (old : Style)
         → sized_bytes 16 n old ≡ wide n old

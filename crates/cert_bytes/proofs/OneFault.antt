@@ -223,13 +223,9 @@ same_fault r f g p q = cc
 not_both : (r : Read Item) (f : CertFault) (v : Item × Cursor) → r ≡ Err f → r ≡ Ok v → ⊥
 not_both r f v p q = cc
 
-same_pair : (r : Read Item) (p q : Item × Cursor) → r ≡ Ok p → r ≡ Ok q → p ≡ q
-same_pair r p q e f = cc
-
 same_read : (r : Read Item) (i j : Item) (n m : Cursor) → r ≡ Ok (i, n)
     → r ≡ Ok (j, m) → (i ≡ j) × (n ≡ m)
-same_read r i j n m e f = let q = same_pair r (i, n) (j, m) e f in
-    (ap (λ (p : Item × Cursor). p.0) q, ap (λ (p : Item × Cursor). p.1) q)
+same_read r i j n m e f = ok_parts i j n m (sym e ∙ f)
 
 -- what follows another item that was read at the same place follows this one
 moved : (d : DueItem) (c : Cursor) (i j : Item) (n m : Cursor) (js : List Item) (f : CertFault)

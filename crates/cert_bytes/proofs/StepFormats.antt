@@ -1,12 +1,12 @@
 -- Formats of steps, of the steps that are named, and of cuts.
 use Rattle.std.proofs.Common.{◌≡◌, ◌≤◌, ◌<◌, ◌+◌, ◌-◌, ◌++◌, ◌∷◌, [], ◌==◌, if◌then◌else◌, ℕ, zero}
 use Rattle.std.proofs.Common.{suc, List, length, Option, Some, None, Ok, Err, refl}
-use Rattle.std.proofs.Common.{sym, ap, subst, ◌∙◌, ⊎_elim, arith, append_assoc}
+use Rattle.std.proofs.Common.{sym, ap, subst, ◌∙◌, arith, append_assoc}
 use Rattle.std.specs.Prelude.{nat_lt, IfSome}
 use Rattle.std.specs.List.{AllByRecursion}
-use Rattle.std.proofs.lemmas.Bool.{cases_lt, eqb-false}
+use Rattle.std.proofs.lemmas.Bool.{eqb-false}
 use Rattle.std.proofs.lemmas.List.{append-nil, length-append}
-use Rattle.fx_model.specs.Fraction.{◌<ℚ◌, lt_le, le_lt_trans}
+use Rattle.fx_model.specs.Fraction.{◌<ℚ◌}
 use Rattle.fx_model.specs.declared.ExprId.{ExprId}
 use Rattle.dyadic.specs.declared.number.Dyadic.{Dyadic}
 use Rattle.dyadic.specs.Values.{value_of}
@@ -104,19 +104,6 @@ a_step = in_turn claim_at cited_at (λ at claim cited c. Ok (row claim cited, c)
     (λ s. refl) (λ p. refl))
 
 -- ---- points that rise
-
--- each of the points is below one that is above the last
-below : (ds : List Dyadic) (p : Dyadic) (i : ℕ) → IsRising ds → IsAboveLast ds p → i < length ds
-    → value_of (point_of ds i) <ℚ value_of p
-below ds p i r a l =
-    let top = a (omega (arith, l)) in
-    ⊎_elim
-    (λ s. let under = r i (length ds - 1) s (omega (arith, l)) in
-    le_lt_trans (value_of (point_of ds i)) (value_of (point_of ds (length ds - 1))) (value_of p)
-    (lt_le (value_of (point_of ds i)) (value_of (point_of ds (length ds - 1))) under) top)
-    (λ s. let e : length ds - 1 ≡ i = omega (arith, l, s) in
-    subst (λ (n : ℕ). value_of (point_of ds n) <ℚ value_of p) e top)
-    (cases_lt i (length ds - 1))
 
 at_front : (acc ds : List Dyadic) (i : ℕ) → i < length acc
     → point_of (acc ++ ds) i ≡ point_of acc i

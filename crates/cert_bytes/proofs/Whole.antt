@@ -15,6 +15,7 @@ use Rattle.cert_bytes.specs.Certificates.{HasSpelling, Fits, AreDue, NoneBeginsA
 use Rattle.cert_bytes.specs.Reading.{Cursor, Read, item_at}
 use Rattle.cert_bytes.specs.ReadBack.{place}
 use Rattle.cert_bytes.specs.Spelling.{spelling, spelled_from}
+use Rattle.cert_bytes.proofs.Format.{ok_parts}
 use Rattle.cert_bytes.proofs.ItemFormats.{items_read_back}
 use Rattle.cert_bytes.proofs.Lengths.{items_are_short}
 
@@ -79,22 +80,13 @@ same_style Done style n = refl
 -- ---- two items that are due
 
 -- an item that is due, and what stands behind its bytes
-abbrev given : Item × Cursor → Read Item
-given p = Ok p
-
 abbrev read_as : Item → Style → ℕ → List ℕ → Read Item
 read_as i style at rest = Ok (i, place style at rest)
 
-inside : (p q : Item × Cursor) → given p ≡ given q → p ≡ q
-inside p q e = cc
-
 taken : (i j : Item) (a b : Style) (m n : ℕ) (s t : List ℕ) → read_as i a m s ≡ read_as j b n t
     → (i ≡ j) × (a ≡ b) × (s ≡ t)
-taken i j a b m n s t e = let q = inside (i, place a m s) (j, place b n t) e in (
-  ap (λ (p : Item × Cursor). p.0) q,
-  ap (λ (p : Item × Cursor). p.1.style) q,
-  ap (λ (p : Item × Cursor). p.1.rest) q,
-)
+taken i j a b m n s t e = let q = ok_parts i j (place a m s) (place b n t) e in
+    (q.0, ap (λ (c : Cursor). c.style) q.1, ap (λ (c : Cursor). c.rest) q.1)
 
 -- both are read where an old style stands
 both_read : (d : DueItem) (i j : Item) (e f : DueItem) (old a b : Style) → due_after d i ≡ Some e
