@@ -77,7 +77,8 @@ an_interval = in_turn end_at end_at (λ at lo hi c. numbered at (interval_from l
 
 a_size : Format size_at (whole (λ s. interval s.interval) (λ s. ⊤))
 unfolding size_at
-a_size = kept an_interval size_from (λ s. s.interval) (λ s. tt) (λ s. sym (size_from_self s)) size_from_out
+a_size = kept an_interval size_from (λ s. s.interval) (λ s. tt) (λ s. sym (size_from_self s))
+    size_from_out
 
 a_relative : Format relative_at (whole (λ e. interval e.interval) (λ e. ⊤))
 unfolding relative_at
@@ -100,7 +101,8 @@ an_error = tags error_by back (λ at tag. way 0 (made a_relative Some) (λ e old
 
 a_place : Format place_at (whole (λ p. signed_short p.exponent) (λ p. ⊤))
 unfolding place_at
-a_place = kept a_signed_short place_from (λ p. p.exponent) fits (λ p. sym (place_from_self p)) place_from_out
+a_place = kept a_signed_short place_from (λ p. p.exponent) fits (λ p. sym (place_from_self p))
+    place_from_out
   where
     fits : (p : FixPlace) → FitsSigned w16 p.exponent
     fits p = let l = p.lowest in let h = p.highest in

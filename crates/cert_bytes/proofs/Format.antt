@@ -149,7 +149,8 @@ then_to r k old mid new s t x y f g at rest l =
     ∙ ap (λ (n : ℕ). Ok (y, place new n rest)) sum
 
 pub sequence : {A B C D : Type 0} {r : Cursor → Read B} {F : Form A B} → Format r F
-    → (k : ℕ → B → Cursor → Read D) → {G : A → Form C D} → ((at : ℕ) (x : A) → F.Is x → Format (k at (F.gives x)) (G x))
+    → (k : ℕ → B → Cursor → Read D) → {G : A → Form C D}
+    → ((at : ℕ) (x : A) → F.Is x → Format (k at (F.gives x)) (G x))
     → Format (λ c. r c >>= λ v. k c.at v.0 v.1) (behind F G)
 sequence {r = r} {F = F} f k {G = G} g = record {
   back = λ p i old. then_to r k old (F.turns p.0 old) ((G p.0).turns p.1 (F.turns p.0 old))
@@ -427,19 +428,13 @@ nothing x = record {
   };
 }
 
-abbrev some_of : {B : Type 0} → B → Option B
-some_of x = Some x
-
 -- a value, where there is one
 pub if_some : {B : Type 0} (at : ℕ) (o : Option B)
     → Format (λ c. numbered at o c) (whole (λ x old. []) (λ x. o ≡ Some x))
 if_some at None = record { back = λ x i old at rest l. cc; out = λ c next y b e. cc }
 if_some at (Some y) = restated (nothing y) (whole (λ x old. []) (λ x. Some y ≡ Some x))
-    (λ x e. (tt, tt, same_as (some_is y x e) (λ old. refl)))
+    (λ x e. (tt, tt, same_as (let q : y ≡ x = cc in q) (λ old. refl)))
     (λ u i. (y, refl, same_as refl (λ old. refl)))
-  where
-    some_is : {B : Type 0} (y x : B) → some_of y ≡ some_of x → y ≡ x
-    some_is y x e = cc
 
 abbrev pub one : ℕ → Bytes
 one b style = b ∷ []

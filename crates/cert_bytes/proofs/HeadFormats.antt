@@ -1,6 +1,7 @@
 -- Formats of what a certificate begins and ends with.
-use Rattle.std.proofs.Common.{◌≡◌, ◌≤◌, ◌+◌, ◌++◌, ◌∷◌, [], ◌==◌, if◌then◌else◌, ℕ, Bool, true, false, List}
-use Rattle.std.proofs.Common.{Ok, refl, sym, ap, ap₂, subst, ◌∙◌, arith, lit<, eqb-true}
+use Rattle.std.proofs.Common.{◌≡◌, ◌≤◌, ◌+◌, ◌++◌, ◌∷◌, [], ◌==◌, if◌then◌else◌, ℕ, Bool, true}
+use Rattle.std.proofs.Common.{false, List, Ok, refl, sym, ap, ap₂, subst, ◌∙◌, arith, lit<}
+use Rattle.std.proofs.Common.{eqb-true}
 use Rattle.std.specs.Prelude.{⊤}
 use Rattle.std.proofs.lemmas.List.{append-nil}
 use Rattle.cert_bytes.specs.declared.fault.CertKind.TheVariants.{BadMagic, BadVersion, BadTag}
@@ -28,8 +29,8 @@ use Rattle.cert_bytes.proofs.NumberFormats.{number, sized_bytes, a_short, a_long
 
 a_magic : Format magic_at (plain (λ (u : ⊤). tt) (λ u old. 70 ∷ 88 ∷ 80 ∷ 67 ∷ []) (λ u. ⊤))
 unfolding magic_at
-a_magic = tested (number 4) BadMagic (λ n. n == 1180192835) (λ n. tt) (λ u. 1180192835) (λ u. tt) (λ u. ⊤)
-    (λ u i. (lit< tt, refl, refl)) (λ n i t. (tt, sym (eqb-true n 1180192835 t), refl, tt))
+a_magic = tested (number 4) BadMagic (λ n. n == 1180192835) (λ n. tt) (λ u. 1180192835) (λ u. tt)
+    (λ u. ⊤) (λ u i. (lit< tt, refl, refl)) (λ n i t. (tt, sym (eqb-true n 1180192835 t), refl, tt))
 
 abbrev version_by : ℕ → ℕ → Cursor → Read ⊤
 version_by at n c = if n == 1 then Ok (tt, styled First c)

@@ -4,7 +4,6 @@ use Rattle.std.proofs.Common.{length, Some, Ok, refl, sym, ap, subst, ◌∙◌,
 use Rattle.std.specs.Prelude.{⊤}
 use Rattle.std.proofs.lemmas.List.{append-nil}
 use Rattle.fx_model.specs.declared.ExprId.{ExprId}
-use Rattle.fx_model.specs.declared.Node.{Node}
 use Rattle.dyadic.specs.declared.number.Dyadic.{Dyadic}
 use Rattle.facts.specs.declared.hint.HintMark.{HintMark}
 use Rattle.facts.specs.declared.hint.HintMark.TheVariants.{Checked, Assumed}

@@ -1,6 +1,7 @@
 -- Formats of nodes.
-use Rattle.std.proofs.Common.{◌≡◌, ◌<◌, ◌^◌, ◌∷◌, ◌++◌, ◌==◌, if◌then◌else◌, pos, negsuc, ℕ, ℤ, Bool, true}
-use Rattle.std.proofs.Common.{false, Option, Some, None, Ok, refl, sym, ap, ◌∙◌, arith, lit<}
+use Rattle.std.proofs.Common.{◌≡◌, ◌<◌, ◌^◌, ◌∷◌, ◌++◌, ◌==◌, if◌then◌else◌, pos, negsuc, ℕ, ℤ}
+use Rattle.std.proofs.Common.{Bool, true, false, Option, Some, None, Ok, refl, sym, ap, ◌∙◌, arith}
+use Rattle.std.proofs.Common.{lit<}
 use Rattle.std.specs.Prelude.{⊤, not}
 use Rattle.std.specs.Int.{w16}
 use Rattle.std.specs.Int.RustNames.{FitsSigned, int_lt}
@@ -136,7 +137,8 @@ a_rounding = in_turn direction_at lsb_at (λ at d k c. Ok (rounding_of d k, c))
 
 -- ---- nodes
 
-an_op : (op : ExprId → ExprId → Node) → Format (two_at op) (plain (λ (p : ExprId × ExprId). op p.0 p.1)
+an_op : (op : ExprId → ExprId → Node) → Format (two_at op)
+    (plain (λ (p : ExprId × ExprId). op p.0 p.1)
     (λ p old. short p.0.0 old ++ short p.1.0 old) (λ p. IsShort p.0.0 × IsShort p.1.0))
 unfolding two_at
 an_op op = made (both an_expr an_expr) (λ p. op p.0 p.1)

@@ -2,7 +2,8 @@
 use mir.Val.{bits, hbits}
 use mir.ValLaws.{of_z_fits, to_z-Fits}
 use Rattle.std.proofs.Common.{◌≡◌, ◌≤◌, ◌<◌, ◌+◌, ◌-◌, ◌*◌, ◌/◌, ◌%◌, ◌^◌, ◌++◌, ◌∷◌, [], ◌==◌}
-use Rattle.std.proofs.Common.{◌&&◌, ◌⊎◌, inl, inr, if◌then◌else◌, ⊎_elim, ℕ, zero, suc, ℤ, pos, negsuc, ◌≤ℤ◌}
+use Rattle.std.proofs.Common.{◌&&◌, ◌⊎◌, inl, inr, if◌then◌else◌, ⊎_elim, ℕ, zero, suc, ℤ, pos}
+use Rattle.std.proofs.Common.{negsuc, ◌≤ℤ◌}
 use Rattle.std.proofs.Common.{Bool, true, false, List, length, Option, Some, None, Ok, Err, refl}
 use Rattle.std.proofs.Common.{sym, ap, ap₂, subst, ◌∙◌, arith, lit<, lit≤, ltb-true, leb-true}
 use Rattle.std.specs.Prelude.{nat_le, nat_lt}
@@ -31,8 +32,8 @@ use Rattle.cert_bytes.specs.Spelling.{signed_short, signed_long}
 use Rattle.cert_bytes.proofs.Digits.{last_digit, first_digit}
 use Rattle.cert_bytes.proofs.Zigzag.{zigzag_back, zigzag_out, zigzag_short, zigzag_long}
 use Rattle.cert_bytes.proofs.Zigzag.{distance_small, distance_again}
-use Rattle.cert_bytes.proofs.Format.{Bytes, Form, plain, whole, Format, IsSame, same_as, Stands, behind}
-use Rattle.cert_bytes.proofs.Format.{through, restated, sequence, made_of, nothing, byte}
+use Rattle.cert_bytes.proofs.Format.{Bytes, Form, plain, whole, Format, IsSame, same_as, Stands}
+use Rattle.cert_bytes.proofs.Format.{behind, through, restated, sequence, made_of, nothing, byte}
 use Rattle.cert_bytes.proofs.Format.{answer, by_style, placed, if_some, chosen, one, IsByte}
 
 -- ---- numbers of fixed width
@@ -350,7 +351,8 @@ sized_form width most = whole (sized_bytes width) (λ n. n ≤ most)
 based_number : (bytes most : ℕ) → 0 < bytes → bytes ≤ 19 → most < 128 ^ bytes
     → Format (based_at bytes most) (whole (λ n old. based n) (λ n. n ≤ most))
 based_number bytes most some few small = through (placed (λ at.
-    restated (further at most 19 bytes 1 0 few (omega arith) (inr some)) (whole (λ n old. based n) (λ n. n ≤ most))
+    restated (further at most 19 bytes 1 0 few (omega arith) (inr some))
+    (whole (λ n old. based n) (λ n. n ≤ most))
     (λ n l. (n, (omega (arith, l, small), λ h. omega (arith, h), omega (arith, l)), same n))
     (λ n i. (n, (let l = i.2 in omega (arith, l)), same n)))) (folded bytes most)
   where
@@ -488,8 +490,8 @@ a_signed : (w : Width) (most : ℕ) → 2 ^ bits w ≡ most + 1
     → Format r (sized_form width most)
     → Format (λ c. r c >>= λ n. Ok (signed_by c.style w n.0, n.1))
     (whole (λ z old. sized_bytes width (number_of w old z) old) (FitsSigned w))
-a_signed w most room folds unfolds width f = by_style f (λ style n. signed_by style w n) (number_of w)
-    (FitsSigned w) there here
+a_signed w most room folds unfolds width f =
+    by_style f (λ style n. signed_by style w n) (number_of w) (FitsSigned w) there here
   where
     there : (old : Style) (z : ℤ) → FitsSigned w z
         → (number_of w old z ≤ most) × (signed_by old w (number_of w old z) ≡ z)

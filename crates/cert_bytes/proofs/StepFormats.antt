@@ -25,9 +25,10 @@ use Rattle.cert_bytes.specs.Reading.{cut_at, case_count_at, ◌>>=◌}
 use Rattle.cert_bytes.specs.Spelling.{tiny, short, reference, references, counted, optional, point}
 use Rattle.cert_bytes.specs.Spelling.{points, cited_bytes, fact_bytes}
 use Rattle.cert_bytes.proofs.Rows.{above_rises, rises_above}
-use Rattle.cert_bytes.proofs.Format.{answer, Form, plain, whole, Format, same_as, restated, sequence}
-use Rattle.cert_bytes.proofs.Format.{made, made_of, tested, between, both, in_turn, nothing, byte}
-use Rattle.cert_bytes.proofs.Format.{tags, way, no_way, Told, told, Follow, GoesOn, many}
+use Rattle.cert_bytes.proofs.Format.{answer, Form, plain, whole, Format, same_as, restated}
+use Rattle.cert_bytes.proofs.Format.{sequence, made, made_of, tested, between, both, in_turn}
+use Rattle.cert_bytes.proofs.Format.{nothing, byte, tags, way, no_way, Told, told, Follow, GoesOn}
+use Rattle.cert_bytes.proofs.Format.{many}
 use Rattle.cert_bytes.proofs.NumberFormats.{a_tiny, a_short, a_reference, an_expr}
 use Rattle.cert_bytes.proofs.FactFormats.{a_point, a_fact}
 
@@ -100,7 +101,8 @@ pub a_step : Format step_at (whole (λ s old. s.rule ∷ (short s.arg old ++ fac
     ++ cited_bytes s old) IsStep)
 unfolding step_at
 a_step = in_turn claim_at cited_at (λ at claim cited c. Ok (row claim cited, c))
-    (made_of (both (both (both byte a_short) a_fact) (both an_optional a_counted)) (λ p. row p.0 p.1) (λ s. (((s.rule, s.arg), s.fact), (s.with, s.premises)))
+    (made_of (both (both (both byte a_short) a_fact) (both an_optional a_counted))
+    (λ p. row p.0 p.1) (λ s. (((s.rule, s.arg), s.fact), (s.with, s.premises)))
     (λ s. refl) (λ p. refl))
 
 -- ---- points that rise
@@ -204,7 +206,8 @@ a_cut = restated (sequence a_cut_head
 
 pub a_case_count : Format case_count_at (whole tiny (λ n. (2 ≤ n) × (n ≤ 64)))
 unfolding case_count_at
-a_case_count = between a_tiny BadNumber (λ n. nat_lt n 2) (λ n. nat_lt 64 n) (λ n. (2 ≤ n) × (n ≤ 64))
+a_case_count = between a_tiny BadNumber (λ n. nat_lt n 2) (λ n. nat_lt 64 n)
+    (λ n. (2 ≤ n) × (n ≤ 64))
     (λ n i. let several = i.0 in let few = i.1 in
     (omega (arith, few), grind (arith, several), grind (arith, few)))
     (λ n i z h. (grind (arith, z), grind (arith, h)))
