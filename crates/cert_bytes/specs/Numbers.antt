@@ -16,6 +16,8 @@ use Rattle.dyadic.specs.declared.number.Dyadic.{Dyadic}
 use Rattle.dyadic.specs.Canonical.{IsCanonical, IsCanonical-prop, IsReduced}
 use Rattle.interval.specs.Decided.{made, made-some, made-none, made_out}
 
+-- ---- tests
+
 pub same_int : (a b : ℤ) → int_eq a b ≡ true → a ≡ b
 same_int a b e = (Decides-int_eq a b).0 e
 

@@ -26,6 +26,8 @@ use Rattle.cert_bytes.specs.declared.style.Style.{Style}
 use Rattle.cert_bytes.specs.declared.style.Style.TheVariants.{First, Second}
 use Rattle.cert_bytes.specs.Styles.{none_seen, style_after}
 
+-- ---- version 2
+
 -- A number below 128^k in base 128, in as many bytes as it needs: the low digits first, and 128 is
 -- added to each but the last.
 unfoldable pub digits : ℕ → ℕ → List ℕ
@@ -198,6 +200,8 @@ spelling item.End style = trailer style
 abbrev pub spelled_from : Style → List Item → List ℕ
 spelled_from style [] = []
 spelled_from style (i ∷ items) = spelling i style ++ spelled_from (style_after style i) items
+
+-- ---- items in version 2
 
 -- what an item spells where this stood before it
 abbrev pub spelling_of : Seen → Item → List ℕ

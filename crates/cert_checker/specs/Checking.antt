@@ -25,6 +25,8 @@ use Rattle.cert_checker.specs.Standing.{Standing, HasRoom}
 use Rattle.cert_checker.specs.Accepted.{Accepts}
 use Rattle.cert_checker.specs.Outcomes.{Outcome, accepted, unread, refused, ComesOf}
 
+-- ---- what is answered
+
 -- nothing was read and nothing taken
 pub record IsFresh (r : Progress) : Type 0 where
   pub at : r.ahead.at ≡ 0
@@ -82,6 +84,8 @@ pub record AnswersBytes (s : Subject) (all : List ℕ) (from : Ahead)
   pub exact : (o : Outcome) → ComesOf s (cursor_of all from) o → IsAnswer o result
   -- lines come of bytes that spell a certificate which is accepted with them
   pub accepts : AreBytes all → IfOk result (λ lines. AreAccepted s all lines.rows)
+
+-- ---- one turn
 
 -- An item more can be read and taken: there is room for it, and no fault was met.
 pub record CanTurn (c : Standing) (r : Progress) : Type 0 where

@@ -14,6 +14,8 @@ use Rattle.cert_bytes.specs.Reading.{cursor, item_at}
 use Rattle.cert_bytes.specs.Styles.{seen_after, IsFew}
 use Rattle.cert_bytes.specs.Spelling.{spelling_of}
 
+-- ---- of bytes that are told
+
 -- These are a certificate's items: they are read to the end, in either version; and they are what
 -- the bytes spell, each of which is a byte.
 pub record AreItemsOf (all : List ℕ) (items : List Item) : Type 0 where
@@ -27,10 +29,14 @@ pub record ItemsAreOne : Type 0 where
   pub sound : (all : List ℕ) (items : List Item) (f : CertFault) → AreItemsOf all items
       → HasFault all f → ⊥
 
+-- ---- whatever the bytes are
+
 -- These items are a certificate's, and where the bytes are told they are those of the bytes.
 pub record AreItemsFor (told : Option (List ℕ)) (items : List Item) : Type 0 where
   pub are : (all : List ℕ) → told ≡ Some all → AreItemsOf all items
   pub certificate : AreCertificate items
+
+-- ---- of a reader
 
 -- One more item can be read and spelled, where this was seen before it.
 pub record CanRespell (seen : Seen) (r : Progress) : Type 0 where

@@ -42,6 +42,8 @@ pub record IsShared (nodes : List Node) : Type 0 where
   pub distinct : (x y : ExprId) (n : Node) → IsAt nodes x n → IsAt nodes y n → x ≡ y
   pub short : length nodes ≤ 1024
 
+-- ---- adding a node
+
 -- The node was there, with number x, and the list stays.
 pub record IsFound (old : List Node) (n : Node) (new : List Node) (x : ExprId) : Type 0 where
   pub there : IsAt old x n
@@ -69,6 +71,8 @@ pub record IsKept (old new : List Node) : Type 0 where
 pub record IsFull (nodes : List Node) (n : Node) : Type 0 where
   pub absent : IsAbsent nodes n
   pub long : length nodes ≡ 1024
+
+-- ---- the same as functions
 
 -- whether two nodes are one, as the program compares them
 abbrev pub same_node : Node → Node → Bool

@@ -113,6 +113,8 @@ module _ {A : Type 0} (make : Bool → ProgKind → A) where
   finds b output_name w = output_finds b (name_in w)
   finds b p w = []
 
+-- ---- in bytes
+
 -- where the bound that the word is in begins, if the word before is its sign
 abbrev pub bound_at : Part → ℕ → ℕ → ℕ
 bound_at (lower_marked h m) last at = last

@@ -21,6 +21,8 @@ use Rattle.fixprog.specs.Grammar.{called, reserved, reserved_out, Step, Statemen
 use Rattle.fixprog.specs.Grammar.{output}
 use Rattle.fixprog.specs.Faults.{Before, after}
 
+-- ---- what a word can be
+
 -- The name that a word is, or none where it is another kind of word.
 abbrev pub name_in : Word → Option Name
 name_in (name text) = Some text
@@ -134,6 +136,8 @@ abbrev pub is_minus : Word → Bool
 is_minus (sign s.Minus) = true
 is_minus w = false
 
+-- ---- a statement that isn't ended, by what is due next
+
 -- `name : format`
 pub record Head : Type 0 where
   pub name : Name
@@ -172,6 +176,8 @@ pub data Part : Type 0 where
   step_end : Step → Part
   output_name : Part
   output_end : Name → Part
+
+-- ---- the part behind a word
 
 -- The part behind a word that is the one due, and none behind any other.
 abbrev pub some_if : Bool → Part → Option Part
@@ -291,6 +297,8 @@ ending p = None
 -- The statement that a word ends, which only a `;` does, and only behind a part that may end there.
 abbrev pub ended : Part → Word → Option Statement
 ended p w = if is_semicolon w then ending p else None
+
+-- ---- the whole statements, and the part
 
 -- The inputs, steps and outputs that are read whole, the names and weight they leave behind, and
 -- the part that isn't ended.

@@ -15,6 +15,8 @@ use Rattle.script_shape.specs.Roles.{Leaf}
 use Rattle.script_judge.specs.declared.refusal.RefusalKind.TheVariants as kind
 use Rattle.script_judge.specs.declared.fault.Fault.{Fault}
 
+-- ---- words
+
 -- a reserved word
 abbrev pub is_reserved : Symbol → Bool
 is_reserved s.In = true
@@ -49,6 +51,8 @@ abbrev pub is_equal : Option Word → Bool
 is_equal (Some (sign s.Equal)) = true
 is_equal _ = false
 
+-- ---- what is due behind some words
+
 -- the name of a direction, and not any name
 abbrev pub is_direction_due : List Word → Bool
 is_direction_due before = may_follow before (class.Name spelled.Direction)
@@ -65,6 +69,8 @@ is_operator_due before =
     may_follow before (class.Sign s.Fixed) && not (may_follow before (class.Sign s.Equal))
     && not (may_follow before (class.Name spelled.Plain))
 
+-- ---- names with a value
+
 -- a definition begins with this name, which gets a value
 abbrev pub gives_value : List ℕ → Due → Word → Bool
 gives_value text d.Script (name k found) = bytes_eq found text
@@ -77,6 +83,8 @@ has_value text leaves = list_any (λ l. gives_value text l.role l.word) leaves
 -- a definition before the one whose name is the last word
 abbrev pub has_earlier_value : List ℕ → List Leaf → Bool
 has_earlier_value text leaves = has_value text (take (length leaves - 1) leaves)
+
+-- ---- the word
 
 -- a name with no meaning so far, before `=`, in the place of an operator behind a definition's name
 abbrev pub is_unknown_op : List Word → List Leaf → Word → Option Word → Bool

@@ -63,6 +63,8 @@ seen_after v seen r w = record {
       (operand_name r w)) v.arrow_behind (ends_between seen.bounds.lower v.number) v.number r w;
 }
 
+-- ---- `?` in a hypothesis; `@FIX`, `\/` and `not` in a goal: propositions with a `->` of the
+
 -- how many of them are
 abbrev pub arrow_count : List Leaf → ℕ
 arrow_count [] = 0
@@ -85,6 +87,8 @@ is_on_wrong_side d.Prop w arrow_behind behind = not arrow_behind && not (is_empt
 is_on_wrong_side d.Connective w arrow_behind behind = is_or w && not arrow_behind
 is_on_wrong_side d.Claim w arrow_behind behind = not arrow_behind || not (begins_bound behind)
 is_on_wrong_side r w arrow_behind behind = false
+
+-- ---- one token: the kinds in the order of their numbers
 
 -- the first kind whose test is true
 abbrev pub first_kind : List (Bool × RefusalKind) → Option RefusalKind
@@ -147,6 +151,8 @@ abbrev pub refusal_at : Notes → Seen → Due → Word → List Leaf → Option
 refusal_at v seen r w behind =
     or_else (form_refusal v seen r w (has_arrow behind) behind)
     (limit_refusal (seen_after v seen r w) r w)
+
+-- ---- all tokens
 
 -- The first refused word, counted from i on, or none.
 pub data Judged : ℕ → Seen → List Leaf → Option Fault → Type 0 where
