@@ -1,7 +1,7 @@
 #!/usr/bin/env python3
 """Tries the edits that the gate leaves out: each is a wrong body that the prover must refuse.
 
-Use, in the repository:   python3 tools/edits.py [--anew] [NAME | NAME/EDIT ..]
+Use, in the repository:   python3 tools/edits.py [--anew] [--functions] [NAME | NAME/EDIT ..]
 
 NAME stands for the edits in edits/NAME/, more of the crate NAME than the gate tries; NAME/EDIT is
 one, in edits/NAME/ or in the gate's folder crates/NAME/must-fail/. Without any, all that lie in
@@ -10,8 +10,13 @@ can be, and `rt must-fail` tries them there. Crates below that aren't built are 
 changes in the repository.
 
 Prints a line for each edit: what came of it, the processor seconds of its check, rounded up, and
-what the prover says first. A dash stands for the seconds where no check was seen, as of an edit
-that was tried before over the same files; --anew tries these too. What comes of an edit:
+what the prover says first. A dash stands for the seconds where no check of it alone was seen, as
+of one that was tried before over the same files; --anew tries these too.
+
+With --functions, edits of functions' bodies are first tried by the proofs of these functions alone
+(`rt check --only`), several in one copy. What isn't refused so is tried as without the word.
+
+What comes of an edit:
   refused      a clause refuses it, or another part of the crate's proof
   by a limit   the prover gave up at a limit of its own, which counts as refused
   by a name    only a proof's file refuses it, as a name is gone, which counts as refused
@@ -46,6 +51,16 @@ KINDS = {
     "NOT TRIED": "NOT TRIED",
 }
 REFUSED = ("refused", "by a limit", "by a name")
+# a function's first line, and that of a block of them, as `rt fmt` lays them out
+FUNCTION = re.compile(r"^( *)(?:pub(?:\([a-z]+\))? )?(?:const |unsafe )*fn (\w+)", re.MULTILINE)
+BLOCK = re.compile(r"^(?:pub |unsafe )*(impl|trait|mod)\b", re.MULTILINE)
+TYPE = re.compile(r"(?:unsafe )?impl(?:<[^{]*?>)? (?:[A-Za-z:]+(?:<[^{]*?>)? for )?(\w+)")
+# what `rt check` says of a function, and a line that names a place
+FATE = re.compile(r"^fn (\S+): (.*)$", re.MULTILINE)
+PLACE = re.compile(r"(?:note: )?\S+:\d+:\d+: ")
+# what a proof's file says of a name that is gone
+GONE = re.compile(r"(?:note: )?(?:\./)?proofs/.*"
+                  r"(?:has no field|is not in scope|has no `|was not admitted)")
 LINE = re.compile(r"rt: must-fail ([\w-]+)/([\w.-]+)\.edit: (.*)", re.DOTALL)
 PERIOD = 0.5
 
@@ -81,9 +96,11 @@ def chosen(words, top=TOP):
     return found
 
 
-def edited(file, crate):
-    """The texts that an edit makes of files of a crate's folder, by their names; {} if it can't."""
-    texts, path, old = {}, None, None
+def edited(file, crate, begun=None):
+    """The texts that an edit makes of files of a crate's folder, by their names; {} if it can't.
+
+    `begun` has texts in place of those of some files."""
+    texts, path, old = dict(begun or {}), None, None
     with open(file, encoding="utf-8") as it:
         lines = it.read().split("\n")
     for line in lines:
@@ -103,6 +120,47 @@ def edited(file, crate):
                 return {}
             texts[path] = texts[path].replace(old, text)
     return texts
+
+
+def function_at(name, path, text, place):
+    """The function of the crate in whose body a place of a file's text lies, by a name that
+    `rt check --only` takes; None if it lies in no body, or in one of a trait."""
+    heads = list(FUNCTION.finditer(text, 0, place))
+    if not heads or not path.startswith("src/"):
+        return None
+    margin, called = heads[-1].groups()
+    body = re.compile(rf"^{margin}(?:\S.*)?\{{$", re.MULTILINE).search(text, heads[-1].start())
+    end = text.find(f"\n{margin}}}", heads[-1].end())
+    if not body or not body.end() <= place < end:
+        return None
+    if margin:
+        block = list(BLOCK.finditer(text, 0, heads[-1].start()))[-1:]
+        kind = TYPE.match(text, block[0].start()) if block else None
+        # (the type may be of another module)
+        return f"{kind[1]}::{called}" if kind else None
+    module = path.removeprefix("src/").removesuffix(".rt").split("/")
+    return "::".join([name, *(module if module not in (["lib"], ["main"]) else []), called])
+
+
+def functions_of(file, name, crate):
+    """The functions whose bodies an edit changes; none if it changes anything else."""
+    found, path, old = [], None, None
+    with open(file, encoding="utf-8") as it:
+        lines = it.read().split("\n")
+    for line in lines:
+        head, _, rest = line.partition(":")
+        if head == "file":
+            path = rest.strip()
+        elif head == "old":
+            old = rest.removeprefix(" ")
+        elif head == "new":
+            with open(f"{crate}/{path}", encoding="utf-8") as it:
+                text = it.read()
+            function = function_at(name, path, text, text.find(old))
+            if not function:
+                return []
+            found += [function] * (function not in found)
+    return found
 
 
 def holds(folder, texts):
@@ -194,9 +252,97 @@ def said_of(kind, text):
     return f": {place[0]}" if place else ""
 
 
-def tried(room, name, files, anew):
-    """Tries a crate's edits in the copy. Gives (edit, kind, text, seconds or None) of each, and the
-    seconds of the crate's own checks or None."""
+def put(path, text):
+    """Gives a file of the copy another text, and leaves alone what it may be a link to."""
+    with open(f"{path}.new", "w", encoding="utf-8") as it:
+        it.write(text)
+    os.replace(f"{path}.new", path)
+
+
+def refusals(said, functions):
+    """What refuses each of these functions in the words of `rt check --only`: the first place in
+    its proof's files, or of a clause that has no proof there. One that is proved isn't there, nor
+    is one that only a proof's file refuses as a name is gone."""
+    found = {}
+    places = [it for it in said.split("\n") if PLACE.match(it)]
+    for function, told in FATE.findall(said):
+        asked = next((it for it in functions if f"::{function}".endswith(f"::{it}")), None)
+        if not asked or told.startswith("proved"):
+            continue
+        folder = f"proofs/{'/'.join(function.split('::')[1:])}/"
+        clauses = [f"(`{it}`)" for it in re.findall(r"`([\w-]+)`", told)]
+        own = [it for it in places if folder in it.removeprefix("note: ").partition(":")[0]]
+        own += [it for it in places if any(clause in it for clause in clauses)]
+        if not own or not all(GONE.match(it) for it in own):
+            found[asked] = next((it for it in own if not GONE.match(it)), told)
+    return found
+
+
+def batches(files, name, crate):
+    """The edits of functions' bodies in groups, in each of which no two change one function.
+
+    A group is what its edits make of the crate's files, and each edit's functions."""
+    groups = []
+    for file in files:
+        functions = functions_of(file, name, crate) if edited(file, crate) else []
+        for texts, its in [*groups, ({}, {})]:
+            made = edited(file, crate, texts)
+            taken = {it for those in its.values() for it in those}
+            if functions and made and not taken.intersection(functions):
+                if not its:
+                    groups.append((texts, its))
+                texts.update(made)
+                its[file] = functions
+                break
+    return groups
+
+
+def tried_by_functions(crate, name, files):
+    """Tries edits by the proofs of the functions that they change, several in one copy: each
+    function's proof reads the contracts of the others alone. Gives for each edit that is refused
+    so what refuses it, and the processor seconds of all."""
+    found, before = {}, os.times()
+    for texts, its in batches(files, name, crate):
+        asked = [function for functions in its.values() for function in functions]
+        words = ["rt", "check", *(it for function in asked for it in ("--only", function))]
+        old = {}
+        for path in texts:
+            with open(f"{crate}/{path}", encoding="utf-8") as it:
+                old[path] = it.read()
+        try:
+            for path, text in texts.items():
+                put(f"{crate}/{path}", text)
+            run = subprocess.run(words, cwd=crate, text=True, errors="replace", check=False,
+                                 stdin=subprocess.DEVNULL, stdout=subprocess.PIPE,
+                                 stderr=subprocess.STDOUT)
+        finally:
+            for path, text in old.items():
+                put(f"{crate}/{path}", text)
+        refused = refusals(run.stdout, asked) if run.returncode == 1 else {}
+        for file, functions in its.items():
+            why = [refused[it] for it in functions if it in refused]
+            found.update({file: why[0]} if why else {})
+    after = os.times()
+    return found, math.ceil(sum(after[2:4]) - sum(before[2:4]))
+
+
+def tried(room, name, files, anew, by_functions):
+    """Tries a crate's edits in the copy. Gives (edit, kind, text, seconds or None) of each, the
+    seconds of the crate's own checks or None, and those of the checks by functions."""
+    found, taken = {}, 0
+    if by_functions:
+        found, taken = tried_by_functions(f"{room}/crates/{name}", name, files)
+    left = [it for it in files if it not in found]
+    each, own = tried_whole(room, name, left, anew) if left else ([], None)
+    told = {it[0]: it for it in each}
+    for file, why in found.items():
+        edit = os.path.basename(file)[: -len(".edit")]
+        told[edit] = edit, "refused", why, None
+    return [told[os.path.basename(it)[: -len(".edit")]] for it in files], own, taken
+
+
+def tried_whole(room, name, files, anew):
+    """The same by `rt must-fail`, which proves the whole crate with each edit."""
     crate, tmp = f"{room}/crates/{name}", f"{room}/tmp"
     folder = f"{crate}/must-fail"
     shutil.rmtree(folder, ignore_errors=True)
@@ -237,6 +383,8 @@ def main(words):
                         help="a crate's edits in edits/, or one edit; all of edits/ without any")
     parser.add_argument("--anew", action="store_true",
                         help="tries those too that were tried before over the same files")
+    parser.add_argument("--functions", action="store_true",
+                        help="tries them first by the functions that they change alone")
     given = parser.parse_args(words)
     try:
         files = chosen(given.edits)
@@ -251,8 +399,9 @@ def main(words):
         copied(room)
         for name, those in files.items():
             print(f"{name}: trying {len(those)}", file=sys.stderr, flush=True)
-            each, before = tried(room, name, those, given.anew)
+            each, before, together = tried(room, name, those, given.anew, given.functions)
             own += before or 0
+            total += together
             for edit, kind, text, seconds in each:
                 shown = "-" if seconds is None else f"{seconds} s"
                 print(f"{kind:12}{shown:>7}  {name}/{edit}{said_of(kind, text)}", flush=True)

@@ -15,7 +15,7 @@ TOOLS = os.path.dirname(os.path.dirname(os.path.abspath(__file__)))
 sys.path.insert(0, TOOLS)
 import edits as tool  # noqa: E402
 
-BODY = "fn low() -> u8 { 1 }\nfn high() -> u8 { 2 }\n"
+BODY = "fn low() -> u8 {\n    1\n}\n\nfn high() -> u8 {\n    2\n}\n"
 FILES = {
     "crates.txt": "one:\ntwo: one\n",
     "HANDLES": "Handles allowed: none.\n",
@@ -31,6 +31,13 @@ STAND_IN = """#!{python}
 import json, os, sys
 with open(os.environ["SAID"], encoding="utf-8") as file:
     said = json.load(file)
+if sys.argv[1] == "check":
+    with open("src/lib.rt", encoding="utf-8") as file:
+        text = file.read()
+    with open(os.environ["LOG"], "a", encoding="utf-8") as file:
+        file.write(json.dumps([sys.argv[1:], text]) + "\\n")
+    print(said["check"])
+    sys.exit(1)
 folder = f"crates/{{sys.argv[2]}}/must-fail"
 there = sorted(os.listdir(folder))
 with open(os.environ["LOG"], "a", encoding="utf-8") as file:
@@ -130,6 +137,67 @@ class Case(unittest.TestCase):
             self.assertEqual(status, 0, word)
             self.assertEqual(len(lines), 2, word)
             self.assertEqual(calls, [[["must-fail", "one"], [edit]]], word)
+
+    def test_by_functions(self):
+        said = {"high_is_low.edit": REFUSED, "check": "\n".join([
+            "note: src/lib.rt:1:1: it isn't proved (`returns-one`)",
+            "fn one::low: no proof: expected answers; `search` did not prove `returns-one`",
+            "fn one::high: proved",
+        ])}
+        status, lines, _, calls = self.run_tool("one", "--functions", said=said)
+        self.assertEqual(status, 0)
+        self.assertEqual(lines[:2], [
+            "refused           -  one/high_is_low: src/lib.rt:1:1: error: the goal fails",
+            "refused           -  one/low_is_high: note: src/lib.rt:1:1: it isn't proved "
+            "(`returns-one`)",
+        ])
+        # (the second's old text stands twice after the first)
+        self.assertEqual(calls, [
+            [["check", "--only", "one::high"], BODY.replace("2", "1")],
+            [["check", "--only", "one::low"], BODY.replace("1", "2")],
+            [["must-fail", "one"], ["high_is_low.edit"]],
+        ])
+
+    def test_what_refuses_a_function(self):
+        told = "\n".join([
+            "./proofs/a/B/c/Answers.antt:2:1: error: `rw`: no occurrence",
+            "./proofs/a/d/Answers.antt:1:1: error: `e` is not in scope",
+            "note: ./proofs/a/d/Goals.antt:1:1: was not admitted",
+            "fn n::a::B::c: not proved",
+            "fn n::a::d: not proved",
+            "fn n::f: stopped at the step limit (9)",
+            "fn n::g: proved",
+            "fn n::h: not proved",
+        ])
+        self.assertEqual(tool.refusals(told, ["B::c", "n::a::d", "n::f", "n::g"]), {
+            "B::c": "./proofs/a/B/c/Answers.antt:2:1: error: `rw`: no occurrence",
+            "n::f": "stopped at the step limit (9)",
+        })
+
+    def test_the_function_of_a_place(self):
+        text = (
+            "const A: u8 = 1;\n\nimpl<T> Of<T> for Kind<T> {\n    fn low(&self) -> u8\n"
+            "    ensures\n        one: result == 2;\n    {\n        3\n    }\n}\n\ntrait Way {\n"
+            "    fn way() -> u8 {\n        4\n    }\n}\n\npub(crate) fn high(\n    a: u8,\n"
+            ") -> u8 {\n    5\n}\n"
+        )
+        wanted = {"1": None, "2": None, "3": "Kind::low", "4": None, "5": "n::m::high"}
+        for word, function in wanted.items():
+            place = text.index(f" {word}")
+            self.assertEqual(tool.function_at("n", "src/m.rt", text, place), function, word)
+        self.assertEqual(tool.function_at("n", "src/lib.rt", text, text.index("5")), "n::high")
+        self.assertIsNone(tool.function_at("n", "specs/M.antt", text, text.index("5")))
+
+    def test_no_two_of_a_batch_change_one_function(self):
+        crate = os.path.join(self.top, "crates", "one")
+        made = [self.made(f"{old}.edit", f"file: src/lib.rt\nold: {old}\nnew: {new}\n")
+                for old, new in (("1", "10"), ("{", "("), (" 2", " 20"), ("  1", "  11"))]
+        groups = tool.batches(made, "one", crate)
+        self.assertEqual([its for _, its in groups], [
+            {made[0]: ["one::low"], made[2]: ["one::high"]}, {made[3]: ["one::low"]}
+        ])
+        both = BODY.replace("1", "10").replace("2", "20")
+        self.assertEqual(groups[0][0], {"src/lib.rt": both})
 
     def test_nothing_changes_and_nothing_is_left(self):
         self.run_tool(said={})
