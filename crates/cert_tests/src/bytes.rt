@@ -3,6 +3,7 @@ ghost use Rattle.std.specs.Prelude.{◌≤◌, length, IfOk};
 ghost use Rattle.cert_bytes.specs.Pieces.{AgreesTold};
 ghost use Rattle.cert_bytes.specs.Certificates.{HasSpelling};
 
+use crate::equals::{bytes_are, text_is};
 use crate::turned::{READ, run_at};
 use crate::worked::{WHOLE, edited, folder_of, turned};
 use cert_bytes::{Item, Reader, StepRow, Stop, write_item};
@@ -76,54 +77,96 @@ fn step(
     }))
 }
 
+// The head, the nodes and the marks.
+fn put_head(out: &mut Vec<u8>) -> Result<(), AllocError> {
+    write_item(&Item::Nodes(3), out)?;
+    write_item(&Item::Node(Node::Var(0)), out)?;
+    write_item(&Item::Node(Node::Var(1)), out)?;
+    write_item(&Item::Node(Node::Mul(ExprId(0), ExprId(1))), out)?;
+    write_item(&Item::Marks(0), out)
+}
+
+fn put_step(
+    rt: &(impl Abort + AllocGlobal),
+    rule: u8,
+    arg: u16,
+    bounds: (ExprId, i64, i64),
+    premises: &[u64],
+    out: &mut Vec<u8>,
+) -> Result<(), AllocError>
+    requires { length premises.now ≤ 65535 }
+{
+    write_item(&step(rt, rule, arg, bounds, premises)?, out)
+}
+
+fn put_leaf(alloc: Global, out: &mut Vec<u8>) -> Result<(), AllocError> {
+    write_item(&Item::Leaf(Items::from_vec([2].to_vec(alloc)?)), out)
+}
+
+fn put_whole(rt: &(impl Abort + AllocGlobal), out: &mut Vec<u8>) -> Result<(), AllocError> {
+    let (x, y, product) = (ExprId(0), ExprId(1), ExprId(2));
+    put_head(out)?;
+    put_step(rt, 100, 0, (x, 1, 2), &[], out)?;
+    put_step(rt, 100, 1, (y, 3, 5), &[], out)?;
+    put_step(rt, 6, 0, (product, 3, 10), &[0, 1], out)?;
+    put_leaf(rt.alloc(), out)
+}
+
 #[test]
 fn items_are_written_as_in_the_table(rt: HostRuntime) -> Result<(), Fail> {
-    let (x, y, product) = (ExprId(0), ExprId(1), ExprId(2));
-    let leaf = Item::Leaf(Items::from_vec([2].to_vec(rt.alloc())?));
     let mut out = Vec::new(rt.alloc());
-    write_item(&Item::Nodes(3), &mut out)?;
-    write_item(&Item::Node(Node::Var(0)), &mut out)?;
-    write_item(&Item::Node(Node::Var(1)), &mut out)?;
-    write_item(&Item::Node(Node::Mul(x, y)), &mut out)?;
-    write_item(&Item::Marks(0), &mut out)?;
-    write_item(&step(&rt, 100, 0, (x, 1, 2), &[])?, &mut out)?;
-    write_item(&step(&rt, 100, 1, (y, 3, 5), &[])?, &mut out)?;
-    write_item(&step(&rt, 6, 0, (product, 3, 10), &[0, 1])?, &mut out)?;
-    write_item(&leaf, &mut out)?;
-    assert_eq!(rt; out.as_slice(), WHOLE.as_slice());
+    put_whole(&rt, &mut out)?;
+    bytes_are(&rt, 0, out.as_slice(), WHOLE.as_slice());
+    Ok(())
+}
+
+// This comes of reading the bytes, by so many a read at most.
+fn is_read(
+    rt: &impl Abort,
+    alloc: Global,
+    bytes: &[u8],
+    failing: &[u64],
+    most: usize,
+    wanted: &str,
+) -> Result<(), Fail>
+    requires { 1 ≤ most }
+{
+    let text = read(alloc, bytes, failing, most)?;
+    text_is(rt, most, text.as_str(), wanted);
     Ok(())
 }
 
 #[test]
 fn items_are_read_in_any_pieces(rt: HostRuntime) -> Result<(), Fail> {
-    let longer = edited(rt.alloc(), 143, &[0], 143)?;
-    let behind = read(rt.alloc(), longer.as_slice(), &[], 7)?;
-    assert_eq!(rt; behind.as_str(), "TrailingBytes 143");
-    let by_one = read(rt.alloc(), &WHOLE, &[], 1)?;
-    assert_eq!(rt; by_one.as_str(), "same");
-    let by_seven = read(rt.alloc(), &WHOLE, &[2, 5, 6], 7)?;
-    assert_eq!(rt; by_seven.as_str(), "same");
-    Ok(())
+    let alloc = rt.alloc();
+    let longer = edited(alloc, 143, &[0], 143)?;
+    is_read(&rt, alloc, &longer, &[], 7, "TrailingBytes 143")?;
+    is_read(&rt, alloc, &WHOLE, &[], 1, "same")?;
+    is_read(&rt, alloc, &WHOLE, &[2, 5, 6], 7, "same")
 }
 
 #[test]
 fn each_front_is_truncated_at_its_length(rt: HostRuntime) -> Result<(), Fail> {
     for length in 0..143usize {
         let wanted = format!(in rt.alloc(); "Truncated {length}")?;
-        let by_one = read(rt.alloc(), &WHOLE[..length], &[], 1)?;
-        assert_eq!(rt; by_one, wanted);
-        let by_seven = read(rt.alloc(), &WHOLE[..length], &[], 7)?;
-        assert_eq!(rt; by_seven, wanted);
+        let front = &WHOLE[..length];
+        is_read(&rt, rt.alloc(), front, &[], 1, wanted.as_str())?;
+        is_read(&rt, rt.alloc(), front, &[], 7, wanted.as_str())?;
     }
+    Ok(())
+}
+
+fn bit_is_read(rt: &impl Abort, alloc: Global, bit: usize) -> Result<(), Fail> {
+    let bytes = turned(alloc, bit)?;
+    let text = read(alloc, bytes.as_slice(), &[], 7)?;
+    text_is(rt, bit, text.as_str(), run_at(&READ, bit));
     Ok(())
 }
 
 #[test]
 fn each_turned_bit_is_read_as_in_the_table(rt: HostRuntime) -> Result<(), Fail> {
     for bit in 0..1144usize {
-        let bytes = turned(rt.alloc(), bit)?;
-        let text = read(rt.alloc(), bytes.as_slice(), &[], 7)?;
-        assert_eq!(rt; text.as_str(), run_at(&READ, bit), "bit {bit}");
+        bit_is_read(&rt, rt.alloc(), bit)?;
     }
     Ok(())
 }

@@ -1,6 +1,7 @@
 // A certificate of a script with two cases, checked against what the cases ask.
 
 use crate::checks::{lines_text, stop_text};
+use crate::equals::bytes_are;
 use crate::worked::folder_of;
 use cert_bytes::Reader;
 use cert_checker::{CheckStop, Lines, Subject, check_subject};
@@ -8,6 +9,7 @@ use fx_edge::Items;
 use script_checker::subject_of;
 use script_grammar::{Script, parse};
 use std::alloc::{AllocError, Global};
+use std::process::Abort;
 use std::test::Fail;
 
 // The certificate of the square of x in [0, 1] or in [3, 4].
@@ -197,41 +199,55 @@ fn joined(alloc: Global, letters: &str) -> Result<Vec<u8>, AllocError> {
 
 const LINE: &str = "x * x in [0, 1b4]\n";
 
+// Whether the second case is asked for, the letters, and the line or why there is none.
+const ROWS: &[(bool, &str, &str)] = &[
+    (true, "htfs", LINE),
+    // another tree in the second case
+    (true, "htfc", LINE),
+    (false, "htfs", "BadCases(2)"),
+    (true, "hf", "BadCases(1)"),
+    (false, "hf", "x * x in [0, 1]\n"),
+    // before what else is wrong with the item: a step, a leaf, a dead end
+    (true, "hxF", "BadCases(1)"),
+    (false, "hxF", "BadStep(0)"),
+    (true, "hl", "BadCases(1)"),
+    (true, "hd", "BadCases(1)"),
+    (true, "hn", "BadTag 17"),
+    // other numbers
+    (true, "h0fs", "BadNumber 18"),
+    (true, "h1fs", "BadNumber 18"),
+    (true, "h3fs", "BadCases(3)"),
+    (true, "h4fs", "BadCases(64)"),
+    (true, "h5fs", "BadNumber 18"),
+    (true, "httf", "BadTag 19"),
+    // the other case's hypothesis; a section too few, or too many
+    (true, "htsf", "BadStep(0)"),
+    (true, "htf", "Truncated 110"),
+    (true, "htfss", "TrailingBytes 201"),
+    // the piece of no cut in the second root section; its leaf cites the first
+    (true, "htfxS", "BadStep(2)"),
+    (true, "htfL", "GoalMissing(1, 1)"),
+    // its step cites one of the first
+    (true, "htfP", "BadPremise(3)"),
+];
+
+fn is_checked(
+    rt: &impl Abort,
+    alloc: Global,
+    both: bool,
+    letters: &str,
+    wanted: &str,
+) -> Result<(), Fail> {
+    let bytes = joined(alloc, letters)?;
+    let text = checked(alloc, both, bytes.as_slice())?;
+    bytes_are(rt, letters.len(), text.as_slice(), wanted.as_bytes());
+    Ok(())
+}
+
 #[test]
 fn a_root_section_stands_for_each_case(rt: HostRuntime) -> Result<(), Fail> {
-    for (both, letters, wanted) in [
-        (true, "htfs", LINE),
-        // another tree in the second case
-        (true, "htfc", LINE),
-        (false, "htfs", "BadCases(2)"),
-        (true, "hf", "BadCases(1)"),
-        (false, "hf", "x * x in [0, 1]\n"),
-        // before what else is wrong with the item: a step, a leaf, a dead end
-        (true, "hxF", "BadCases(1)"),
-        (false, "hxF", "BadStep(0)"),
-        (true, "hl", "BadCases(1)"),
-        (true, "hd", "BadCases(1)"),
-        (true, "hn", "BadTag 17"),
-        // other numbers
-        (true, "h0fs", "BadNumber 18"),
-        (true, "h1fs", "BadNumber 18"),
-        (true, "h3fs", "BadCases(3)"),
-        (true, "h4fs", "BadCases(64)"),
-        (true, "h5fs", "BadNumber 18"),
-        (true, "httf", "BadTag 19"),
-        // the other case's hypothesis; a section too few, or too many
-        (true, "htsf", "BadStep(0)"),
-        (true, "htf", "Truncated 110"),
-        (true, "htfss", "TrailingBytes 201"),
-        // the piece of no cut in the second root section; its leaf cites the first
-        (true, "htfxS", "BadStep(2)"),
-        (true, "htfL", "GoalMissing(1, 1)"),
-        // its step cites one of the first
-        (true, "htfP", "BadPremise(3)"),
-    ] {
-        let bytes = joined(rt.alloc(), letters)?;
-        let text = checked(rt.alloc(), both, bytes.as_slice())?;
-        assert_eq!(rt; text.as_slice(), wanted.as_bytes(), "{wanted}");
+    for (both, letters, wanted) in ROWS {
+        is_checked(&rt, rt.alloc(), *both, letters, wanted)?;
     }
     Ok(())
 }

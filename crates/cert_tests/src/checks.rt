@@ -1,6 +1,7 @@
 // The worked certificate checked for a script: whole, damaged, and from a folder that fails.
 ghost use Rattle.std.specs.Prelude.{◌≤◌};
 
+use crate::equals::bytes_are;
 use crate::turned::{CHECKED, run_at};
 use crate::worked::{WHOLE, edited, folder_of, turned};
 use cert_bytes::Reader;
@@ -9,6 +10,7 @@ use report::proved::answer_text;
 use script_checker::check_script;
 use script_grammar::{Script, parse};
 use std::alloc::{AllocError, Global};
+use std::process::Abort;
 use std::test::Fail;
 
 const SCRIPT: &str = "{ x in [1,2] /\\ y in [3,5] -> x * y in ? }";
@@ -94,7 +96,7 @@ const LAST_FIRST: &[u8] = &[
 
 // The bytes before a place of the certificate, a piece, and the bytes from a place on; and what
 // comes of them.
-const ROWS: [(usize, &[u8], usize, &str); 31] = [
+const ROWS: &[(usize, &[u8], usize, &str)] = &[
     (143, &[], 143, LINE),
     (4, &[9], 5, "BadVersion 4"),
     (142, &[], 143, "Truncated 142"),
@@ -163,16 +165,28 @@ const ROWS: [(usize, &[u8], usize, &str); 31] = [
     (142, &[3], 143, "GoalMissing(0, 1)"),
 ];
 
+// This is the answer to the bytes, by so many a read at most; `at` is the place of the row.
+fn is_checked(
+    rt: &impl Abort,
+    alloc: Global,
+    bytes: &[u8],
+    failing: &[u64],
+    most: usize,
+    wanted: &str,
+    at: usize,
+) -> Result<(), Fail>
+    requires { 1 ≤ most }
+{
+    let text = checked(alloc, SCRIPT, bytes, failing, most)?;
+    bytes_are(rt, at, text.as_slice(), wanted.as_bytes());
+    Ok(())
+}
+
 #[test]
 fn damage_is_answered_by_the_line_or_the_first_fault(rt: HostRuntime) -> Result<(), Fail> {
     for (front, piece, back, wanted) in ROWS {
-        let bytes = edited(rt.alloc(), front, piece, back)?;
-        let text = checked(rt.alloc(), SCRIPT, bytes.as_slice(), &[], 7)?;
-        assert_eq!(rt;
-            text.as_slice(),
-            wanted.as_bytes(),
-            "from {front} to {back}"
-        );
+        let bytes = edited(rt.alloc(), *front, *piece, *back)?;
+        is_checked(&rt, rt.alloc(), &bytes, &[], 7, wanted, *front)?;
     }
     Ok(())
 }
@@ -181,12 +195,7 @@ fn damage_is_answered_by_the_line_or_the_first_fault(rt: HostRuntime) -> Result<
 fn each_turned_bit_is_checked_as_in_the_table(rt: HostRuntime) -> Result<(), Fail> {
     for at in 0..143usize {
         let bytes = turned(rt.alloc(), 8 * at)?;
-        let text = checked(rt.alloc(), SCRIPT, bytes.as_slice(), &[], 1)?;
-        assert_eq!(rt;
-            text.as_slice(),
-            run_at(&CHECKED, at).as_bytes(),
-            "byte {at}"
-        );
+        is_checked(&rt, rt.alloc(), &bytes, &[], 1, run_at(&CHECKED, at), at)?;
     }
     Ok(())
 }
@@ -194,10 +203,10 @@ fn each_turned_bit_is_checked_as_in_the_table(rt: HostRuntime) -> Result<(), Fai
 // By 7 bytes a read there are 21 reads, and one more that finds the end.
 #[test]
 fn each_read_that_fails_is_told(rt: HostRuntime) -> Result<(), Fail> {
-    for failing in 1..24u64 {
-        let text = checked(rt.alloc(), SCRIPT, &WHOLE, &[failing], 7)?;
+    for failing in 1..24usize {
         let wanted = if failing <= 22 { "Failed" } else { LINE };
-        assert_eq!(rt; text.as_slice(), wanted.as_bytes(), "read {failing}");
+        let reads = [failing as u64];
+        is_checked(&rt, rt.alloc(), &WHOLE, &reads, 7, wanted, failing)?;
     }
     Ok(())
 }
@@ -205,6 +214,6 @@ fn each_read_that_fails_is_told(rt: HostRuntime) -> Result<(), Fail> {
 #[test]
 fn another_script_has_other_nodes(rt: HostRuntime) -> Result<(), Fail> {
     let text = checked(rt.alloc(), "{ x in [1,2] -> x + x in ? }", &WHOLE, &[], 7)?;
-    assert_eq!(rt; text.as_slice(), b"WrongScript(1)".as_slice());
+    bytes_are(&rt, 0, text.as_slice(), b"WrongScript(1)".as_slice());
     Ok(())
 }

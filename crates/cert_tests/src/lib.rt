@@ -8,6 +8,8 @@ mod cases;
 #[cfg(test)]
 mod checks;
 #[cfg(test)]
+mod equals;
+#[cfg(test)]
 mod halved;
 #[cfg(test)]
 mod of_cert_trim;

@@ -3,6 +3,7 @@ ghost use Rattle.std.specs.Prelude.{◌≡◌, ◌<◌, IfOk, length};
 ghost use Rattle.std.specs.List.{AllByRecursion};
 ghost use Rattle.cert_bytes.specs.Certificates.{HasSpelling};
 
+use crate::equals::bytes_are;
 use cert_bytes::{Item, Reader, write_item};
 use cert_checker::{Subject, accepted_items};
 use cert_trim::trim;
@@ -167,26 +168,58 @@ fn trimmed(
     Ok(Some((left.kept, left.all, bytes)))
 }
 
+// So many steps of so many are left, in these bytes; or nothing is.
+fn is_left(
+    rt: &impl Abort,
+    found: &Option<(u64, u64, Vec<u8>)>,
+    wanted: Option<(u64, u64, &[u8])>,
+) {
+    let (Some((kept, all, left)), Some((few, many, bytes))) = (found, wanted) else {
+        assert!(rt; found.is_none() && wanted.is_none());
+        return;
+    };
+    assert_eq!(rt; (*kept, *all), (few, many));
+    bytes_are(rt, 0, left.as_slice(), bytes);
+}
+
+// The certificate is accepted, and so many steps of so many are left, in these bytes; or it isn't.
+fn is_trimmed(
+    rt: &impl Abort,
+    alloc: Global,
+    subject: Subject,
+    bytes: Vec<u8>,
+    wanted: Option<(u64, u64, &[u8])>,
+) -> Result<(), Fail>
+    requires goals { length subject.goals < 65535 }
+    requires marks { length subject.marks < 65535 }
+{
+    let found = trimmed(alloc, subject, bytes)?;
+    is_left(rt, &found, wanted);
+    Ok(())
+}
+
 // The same for the product of x in [1, 2] and y in [3, 5], of these steps and a leaf.
-fn of_product(
+fn product_is(
     rt: &(impl Abort + AllocGlobal),
     steps: &[&[u8]],
     last: u8,
-) -> Result<Option<(u64, u64, Vec<u8>)>, AllocError> {
+    wanted: Option<(u64, u64, &[u8])>,
+) -> Result<(), Fail> {
     let alloc = rt.alloc();
-    let dag = nodes(rt, alloc, true);
-    let asked = subject(
-        alloc,
-        dag,
-        1,
-        whole(rt, X, 1, 2),
-        whole(rt, Y, 3, 5),
-        ExprId(2),
-    )?;
+    let bytes = with_leaf(alloc, steps, last)?;
+    let (first, second) = (whole(rt, X, 1, 2), whole(rt, Y, 3, 5));
+    let asked = subject(alloc, nodes(rt, alloc, true), 1, first, second, ExprId(2))?;
+    is_trimmed(rt, alloc, asked, bytes, wanted)
+}
+
+// The head, these steps, and a leaf.
+fn with_leaf(alloc: Global, steps: &[&[u8]], last: u8) -> Result<Vec<u8>, AllocError> {
     let mut bytes = HEAD.to_vec(alloc)?;
-    bytes.extend_from_slice(joined(alloc, steps)?.as_slice())?;
+    for step in steps {
+        bytes.extend_from_slice(step)?;
+    }
     bytes.extend_from_slice(&leaf(last))?;
-    trimmed(alloc, asked, bytes)
+    Ok(bytes)
 }
 
 #[test]
@@ -194,9 +227,8 @@ fn steps_that_are_used_stay(rt: HostRuntime) -> Result<(), Fail> {
     let alloc = rt.alloc();
     let by_both = product(alloc, None, 0, 1)?;
     let same = joined(alloc, &[&HEAD, &XS, &YS, by_both.as_slice(), &leaf(2)])?;
-    let found = of_product(&rt, &[&XS, &YS, by_both.as_slice()], 2)?;
-    assert_eq!(rt; found, Some((3, 3, same)));
-    Ok(())
+    let wanted = Some((3, 3, same.as_slice()));
+    product_is(&rt, &[&XS, &YS, by_both.as_slice()], 2, wanted)
 }
 
 #[test]
@@ -206,14 +238,11 @@ fn steps_that_are_not_used_go(rt: HostRuntime) -> Result<(), Fail> {
     let by_second = product(alloc, None, 0, 2)?;
     let whole = joined(alloc, &[&HEAD, &XS, &YS, by_first.as_slice(), &leaf(2)])?;
     // The second copy isn't cited; the first isn't; and a step that isn't used cites one.
-    let second = of_product(&rt, &[&XS, &YS, &YS, by_first.as_slice()], 3)?;
-    assert_eq!(rt; second, Some((3, 4, whole.clone()?)));
-    let first = of_product(&rt, &[&XS, &YS, &YS, by_second.as_slice()], 3)?;
-    assert_eq!(rt; first, Some((3, 4, whole.clone()?)));
+    let wanted = Some((3, 4, whole.as_slice()));
+    product_is(&rt, &[&XS, &YS, &YS, by_first.as_slice()], 3, wanted)?;
+    product_is(&rt, &[&XS, &YS, &YS, by_second.as_slice()], 3, wanted)?;
     let steps = [&XS, &YS, &YS, by_second.as_slice(), by_first.as_slice()];
-    let chain = of_product(&rt, &steps, 4)?;
-    assert_eq!(rt; chain, Some((3, 5, whole)));
-    Ok(())
+    product_is(&rt, &steps, 4, Some((3, 5, whole.as_slice())))
 }
 
 #[test]
@@ -223,42 +252,46 @@ fn what_a_step_is_met_with_stays(rt: HostRuntime) -> Result<(), Fail> {
     let met = product(alloc, Some(3), 0, 2)?;
     let moved = product(alloc, None, 0, 1)?;
     let met_moved = product(alloc, Some(2), 0, 1)?;
-    let first = joined(alloc, &[&HEAD, &XS, &YS, moved.as_slice()])?;
-    let left = joined(alloc, &[first.as_slice(), met_moved.as_slice(), &leaf(3)])?;
+    let moved_steps = [&XS, &YS, moved.as_slice(), met_moved.as_slice()];
+    let left = with_leaf(alloc, &moved_steps, 3)?;
     let steps = [&XS, &XS, &YS, plain.as_slice(), met.as_slice()];
-    assert_eq!(rt; of_product(&rt, &steps, 4)?, Some((4, 5, left)));
-    Ok(())
+    product_is(&rt, &steps, 4, Some((4, 5, left.as_slice())))
 }
 
 #[test]
 fn a_dead_end_names_the_new_number(rt: HostRuntime) -> Result<(), Fail> {
     let alloc = rt.alloc();
-    let dag = nodes(&rt, alloc, false);
-    let apart = subject(alloc, dag, 1, whole(&rt, X, 1, 2), whole(&rt, X, 3, 4), X)?;
     // The step that goes is the first item of the root section.
     let bytes = joined(alloc, &[&ALONE, &LATER, &XS, &void(1), &dead(2)])?;
     let left = joined(alloc, &[&ALONE, &XS, &void(0), &dead(1)])?;
-    assert_eq!(rt; trimmed(alloc, apart, bytes)?, Some((2, 3, left)));
-    Ok(())
+    alone_is(&rt, 1, bytes, Some((2, 3, left.as_slice())))
+}
+
+// The same for so many cases of x in [1, 2] and in [3, 4].
+fn alone_is(
+    rt: &(impl Abort + AllocGlobal),
+    count: usize,
+    bytes: Vec<u8>,
+    wanted: Option<(u64, u64, &[u8])>,
+) -> Result<(), Fail> {
+    let alloc = rt.alloc();
+    let (first, second) = (whole(rt, X, 1, 2), whole(rt, X, 3, 4));
+    let asked = subject(alloc, nodes(rt, alloc, false), count, first, second, X)?;
+    is_trimmed(rt, alloc, asked, bytes, wanted)
 }
 
 #[test]
 fn each_case_keeps_its_root_section(rt: HostRuntime) -> Result<(), Fail> {
     let alloc = rt.alloc();
-    let dag = nodes(&rt, alloc, false);
-    let twice = subject(alloc, dag, 2, whole(&rt, X, 1, 2), whole(&rt, X, 3, 4), X)?;
     let head = joined(alloc, &[&ALONE, &[5, 2]])?;
     let roots: [&[u8]; 6] = [&LATER, &XS, &leaf(1), &XS, &LATER, &leaf(3)];
     let bytes = joined(alloc, &[head.as_slice(), joined(alloc, &roots)?.as_slice()])?;
     let left = joined(alloc, &[head.as_slice(), &XS, &leaf(0), &LATER, &leaf(1)])?;
-    assert_eq!(rt; trimmed(alloc, twice, bytes)?, Some((2, 4, left)));
-    Ok(())
+    alone_is(&rt, 2, bytes, Some((2, 4, left.as_slice())))
 }
 
 #[test]
 fn a_certificate_that_is_not_accepted_is_not_trimmed(rt: HostRuntime) -> Result<(), Fail> {
     let by_later = product(rt.alloc(), None, 0, 3)?;
-    let steps = [&XS, &YS, by_later.as_slice()];
-    assert_eq!(rt; of_product(&rt, &steps, 2)?, None);
-    Ok(())
+    product_is(&rt, &[&XS, &YS, by_later.as_slice()], 2, None)
 }

@@ -1,6 +1,7 @@
 // The worked certificate, rewritten.
 ghost use Rattle.std.specs.Prelude.{◌≤◌};
 
+use crate::equals::text_is;
 use cert_upgrade::{UpgradeStop, upgrade};
 use fx_edge::MemFolder;
 use std::alloc::{AllocError, Global};
@@ -86,20 +87,31 @@ fn upgraded(alloc: Global, bytes: &[u8], failing: &[u64], most: usize) -> Result
     }
 }
 
-#[test]
-fn the_worked_certificate_is_rewritten(rt: HostRuntime) -> Result<(), Fail> {
-    let first = upgraded(rt.alloc(), &WHOLE, &[], 1)?;
-    assert_eq!(rt; first.as_str(), "1 sections, 3 steps, the whole");
-    let second = upgraded(rt.alloc(), &SHORT, &[], 7)?;
-    assert_eq!(rt; second.as_str(), "1 sections, 3 steps, the whole");
-    let broken = upgraded(rt.alloc(), &SHORT, &[27], 7)?;
-    assert_eq!(rt; broken.as_str(), "WriteFailed, a front");
+fn is_upgraded(
+    rt: &impl Abort,
+    alloc: Global,
+    bytes: &[u8],
+    failing: &[u64],
+    most: usize,
+    wanted: &str,
+) -> Result<(), Fail>
+    requires { 1 ≤ most }
+{
+    let text = upgraded(alloc, bytes, failing, most)?;
+    text_is(rt, most, text.as_str(), wanted);
     Ok(())
 }
 
 #[test]
+fn the_worked_certificate_is_rewritten(rt: HostRuntime) -> Result<(), Fail> {
+    let (alloc, rewritten) = (rt.alloc(), "1 sections, 3 steps, the whole");
+    is_upgraded(&rt, alloc, &WHOLE, &[], 1, rewritten)?;
+    is_upgraded(&rt, alloc, &SHORT, &[], 7, rewritten)?;
+    is_upgraded(&rt, alloc, &SHORT, &[27], 7, "WriteFailed, a front")
+}
+
+#[test]
 fn a_fault_leaves_the_new_file(rt: HostRuntime) -> Result<(), Fail> {
-    let cut = upgraded(rt.alloc(), &WHOLE[..142], &[], 1)?;
-    assert_eq!(rt; cut.as_str(), "Truncated 142, what it held");
-    Ok(())
+    let cut = &WHOLE[..142];
+    is_upgraded(&rt, rt.alloc(), cut, &[], 1, "Truncated 142, what it held")
 }

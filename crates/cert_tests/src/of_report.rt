@@ -1,6 +1,7 @@
 //! Lines that were worked out by hand.
 ghost use Rattle.std.specs.Prelude.{◌<◌, ◌^◌, length};
 
+use crate::equals::bytes_are;
 use cert_bytes::{CertFault, CertKind};
 use cert_checker::CheckFault;
 use dyadic::{Dyadic, End};
@@ -84,10 +85,19 @@ fn each_goal_has_its_line(rt: HostRuntime) -> Result<(), Fail> {
         (b"x y", 2, 1, above, b"before\n in [1, +inf]\n"),
         (b"", 0, 9, above, b"before\n in [1, +inf]\n"),
     ];
+    lines_are(&rt, rt.alloc(), &rows)
+}
+
+// A text, its tokens from one up to another, a range, and the line.
+fn lines_are(
+    rt: &impl Abort,
+    alloc: Global,
+    rows: &[(&[u8], usize, usize, Interval, &[u8])],
+) -> Result<(), Fail> {
     for (text, first, end, range, wanted) in rows {
         assert!(rt; text.len() < 1000);
-        let line = goal_line(rt.alloc(), text, first, end, range)?;
-        assert_eq!(rt; line.as_slice(), wanted, "{text:?}");
+        let line = goal_line(alloc, *text, *first, *end, *range)?;
+        bytes_are(rt, *end, line.as_slice(), *wanted);
     }
     Ok(())
 }
@@ -113,92 +123,133 @@ fn an_answer_has_its_goals_and_then_its_hints(rt: HostRuntime) -> Result<(), Fai
         &[HintMark::Assumed, HintMark::Checked, HintMark::Assumed],
     )?;
     let wanted = "x * y in [3, 5b1]\nx -/ y in none\nx in empty\nhint 1 assumed\nhint 3 assumed\n";
-    assert_eq!(rt; answer.as_slice(), wanted.as_bytes());
+    bytes_are(&rt, 0, answer.as_slice(), wanted.as_bytes());
+    Ok(())
+}
+
+// The kind of a refusal, its byte, and its line.
+const REFUSALS: &[(RefusalKind, u32, &str)] = &[
+    (RefusalKind::Unexpected, 0, "script: Unexpected at 0\n"),
+    (RefusalKind::BadBound, 10, "script: BadBound at 10\n"),
+    (RefusalKind::NameUsed, 7, "script: NameUsed at 7\n"),
+    (RefusalKind::FormulaForm, 13, "script: FormulaForm at 13\n"),
+    (
+        RefusalKind::UnsupportedOperator,
+        2,
+        "script: UnsupportedOperator at 2\n",
+    ),
+    (
+        RefusalKind::NotText,
+        u32::MAX,
+        "script: NotText at 4294967295\n",
+    ),
+    (
+        RefusalKind::Limit(LimitKind::Nesting),
+        66,
+        "script: Limit(Nesting) at 66\n",
+    ),
+    (
+        RefusalKind::Limit(LimitKind::Lsb),
+        11,
+        "script: Limit(Lsb) at 11\n",
+    ),
+];
+
+fn refusal_is(rt: &impl Abort, alloc: Global, refusal: Refusal, wanted: &str) -> Result<(), Fail> {
+    let line = refusal_line(alloc, refusal)?;
+    bytes_are(rt, 0, line.as_slice(), wanted.as_bytes());
     Ok(())
 }
 
 #[test]
 fn each_refusal_has_its_line(rt: HostRuntime) -> Result<(), Fail> {
-    for (kind, at, wanted) in [
-        (RefusalKind::Unexpected, 0, "script: Unexpected at 0\n"),
-        (RefusalKind::BadBound, 10, "script: BadBound at 10\n"),
-        (RefusalKind::NameUsed, 7, "script: NameUsed at 7\n"),
-        (RefusalKind::FormulaForm, 13, "script: FormulaForm at 13\n"),
-        (
-            RefusalKind::UnsupportedOperator,
-            2,
-            "script: UnsupportedOperator at 2\n",
-        ),
-        (
-            RefusalKind::NotText,
-            u32::MAX,
-            "script: NotText at 4294967295\n",
-        ),
-        (
-            RefusalKind::Limit(LimitKind::Nesting),
-            66,
-            "script: Limit(Nesting) at 66\n",
-        ),
-        (
-            RefusalKind::Limit(LimitKind::Lsb),
-            11,
-            "script: Limit(Lsb) at 11\n",
-        ),
-    ] {
-        let line = refusal_line(rt.alloc(), Refusal { kind, at })?;
-        assert_eq!(rt; line.as_slice(), wanted.as_bytes(), "{wanted}");
+    for (kind, at, wanted) in REFUSALS {
+        let refusal = Refusal {
+            kind: *kind,
+            at: *at,
+        };
+        refusal_is(&rt, rt.alloc(), refusal, wanted)?;
     }
+    Ok(())
+}
+
+// The kind of what is no certificate, its byte, and its line.
+const FAULTS: &[(CertKind, u64, &str)] = &[
+    (CertKind::BadMagic, 0, "certificate: BadMagic at 0\n"),
+    (CertKind::Truncated, 142, "certificate: Truncated at 142\n"),
+    (
+        CertKind::TooLong,
+        17592186044416,
+        "certificate: TooLong at 17592186044416\n",
+    ),
+];
+
+fn cert_fault_is(
+    rt: &impl Abort,
+    alloc: Global,
+    fault: CertFault,
+    wanted: &str,
+) -> Result<(), Fail> {
+    let line = cert_fault_line(alloc, fault)?;
+    bytes_are(rt, 0, line.as_slice(), wanted.as_bytes());
+    Ok(())
+}
+
+// What is wrong with one, and its line.
+const CHECK_FAULTS: &[(CheckFault, &str)] = &[
+    (CheckFault::BadStep(2), "certificate: BadStep 2\n"),
+    (
+        CheckFault::BadPremise(u64::MAX),
+        "certificate: BadPremise 18446744073709551615\n",
+    ),
+    (
+        CheckFault::GoalMissing(0, 1),
+        "certificate: GoalMissing 0 1\n",
+    ),
+    (CheckFault::WrongScript(1), "certificate: WrongScript 1\n"),
+    (CheckFault::BadCases(2), "certificate: BadCases 2\n"),
+];
+
+fn check_fault_is(
+    rt: &impl Abort,
+    alloc: Global,
+    fault: CheckFault,
+    wanted: &str,
+) -> Result<(), Fail> {
+    let line = check_fault_line(alloc, fault)?;
+    bytes_are(rt, 0, line.as_slice(), wanted.as_bytes());
     Ok(())
 }
 
 #[test]
 fn each_fault_of_a_certificate_has_its_line(rt: HostRuntime) -> Result<(), Fail> {
-    for (kind, at, wanted) in [
-        (CertKind::BadMagic, 0, "certificate: BadMagic at 0\n"),
-        (CertKind::Truncated, 142, "certificate: Truncated at 142\n"),
-        (
-            CertKind::TooLong,
-            17592186044416,
-            "certificate: TooLong at 17592186044416\n",
-        ),
-    ] {
-        let line = cert_fault_line(rt.alloc(), CertFault { kind, at })?;
-        assert_eq!(rt; line.as_slice(), wanted.as_bytes(), "{wanted}");
+    for (kind, at, wanted) in FAULTS {
+        let fault = CertFault {
+            kind: *kind,
+            at: *at,
+        };
+        cert_fault_is(&rt, rt.alloc(), fault, wanted)?;
     }
-    for (fault, wanted) in [
-        (CheckFault::BadStep(2), "certificate: BadStep 2\n"),
-        (
-            CheckFault::BadPremise(u64::MAX),
-            "certificate: BadPremise 18446744073709551615\n",
-        ),
-        (
-            CheckFault::GoalMissing(0, 1),
-            "certificate: GoalMissing 0 1\n",
-        ),
-        (CheckFault::WrongScript(1), "certificate: WrongScript 1\n"),
-        (CheckFault::BadCases(2), "certificate: BadCases 2\n"),
-    ] {
-        let line = check_fault_line(rt.alloc(), fault)?;
-        assert_eq!(rt; line.as_slice(), wanted.as_bytes(), "{wanted}");
+    for (fault, wanted) in CHECK_FAULTS {
+        check_fault_is(&rt, rt.alloc(), *fault, wanted)?;
     }
     Ok(())
 }
 
 #[test]
 fn each_limit_has_its_line(rt: HostRuntime) -> Result<(), Fail> {
-    assert_eq!(rt;
-        expressions_text(),
-        "limit: more than 1024 expressions\n".as_bytes()
-    );
+    let wanted = "limit: more than 1024 expressions\n";
+    bytes_are(&rt, 0, expressions_text(), wanted.as_bytes());
     let line = boxes_text(rt.alloc(), 14)?;
-    assert_eq!(rt; line.as_slice(), "limit: more than 14 boxes\n".as_bytes());
+    let wanted = "limit: more than 14 boxes\n";
+    bytes_are(&rt, 0, line.as_slice(), wanted.as_bytes());
     Ok(())
 }
 
 #[test]
 fn a_part_ends_where_its_list_ends(rt: HostRuntime) {
     let items = [4, 5, 6];
-    let rows: [(usize, usize, &[u8]); 6] = [
+    const ROWS: &[(usize, usize, &[u8])] = &[
         (0, 3, &[4, 5, 6]),
         (1, 2, &[5]),
         (1, 9, &[5, 6]),
@@ -206,7 +257,7 @@ fn a_part_ends_where_its_list_ends(rt: HostRuntime) {
         (7, 9, &[]),
         (2, 1, &[]),
     ];
-    for (first, end, wanted) in rows {
-        assert_eq!(rt; part(&items, first, end), wanted, "{first} {end}");
+    for (first, end, wanted) in ROWS {
+        bytes_are(&rt, *first, part(&items, *first, *end), *wanted);
     }
 }

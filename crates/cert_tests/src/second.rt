@@ -2,6 +2,7 @@
 ghost use Rattle.std.specs.Prelude.{◌≤◌};
 ghost use Rattle.cert_bytes.specs.Pieces.{AgreesTold};
 
+use crate::equals::{bytes_are, text_is};
 use crate::worked::{WHOLE, folder_of};
 use cert_bytes::{Item, Reader, Seen, Stop, write_item, write_item2};
 use fx_edge::{Folder, Items};
@@ -85,27 +86,47 @@ fn edited(alloc: Global, front: usize, piece: &[u8], back: usize) -> Result<Vec<
     Ok(bytes)
 }
 
-#[test]
-fn the_second_version_is_read(rt: HostRuntime) -> Result<(), Fail> {
-    let by_one = read(rt.alloc(), &SHORT, 1)?;
-    assert_eq!(rt; by_one.as_str(), "second");
-    let by_seven = read(rt.alloc(), &SHORT, 7)?;
-    assert_eq!(rt; by_seven.as_str(), "second");
-    let whole = read(rt.alloc(), &WHOLE, 7)?;
-    assert_eq!(rt; whole.as_str(), "first");
+fn is_read(
+    rt: &impl Abort,
+    alloc: Global,
+    bytes: &[u8],
+    most: usize,
+    wanted: &str,
+) -> Result<(), Fail>
+    requires { 1 ≤ most }
+{
+    let text = read(alloc, bytes, most)?;
+    text_is(rt, most, text.as_str(), wanted);
     Ok(())
 }
 
 #[test]
+fn the_second_version_is_read(rt: HostRuntime) -> Result<(), Fail> {
+    is_read(&rt, rt.alloc(), &SHORT, 1, "second")?;
+    is_read(&rt, rt.alloc(), &SHORT, 7, "second")?;
+    is_read(&rt, rt.alloc(), &WHOLE, 7, "first")
+}
+
+// Writes the worked certificate in both versions.
+fn write_both(
+    alloc: Global,
+    first: &mut Vec<u8>,
+    second: &mut Vec<u8>,
+) -> Result<bool, AllocError> {
+    let mut folder = folder_of(alloc, &WHOLE, &[], 7)?;
+    let mut reader = Reader::new(alloc, "c")?;
+    let read = copy_items(&mut folder, &mut reader, first, second);
+    Ok(read.is_ok())
+}
+
+#[test]
 fn both_versions_have_the_same_items(rt: HostRuntime) -> Result<(), Fail> {
-    let mut folder = folder_of(rt.alloc(), &WHOLE, &[], 7)?;
-    let mut reader = Reader::new(rt.alloc(), "c")?;
     let mut first = Vec::new(rt.alloc());
     let mut second = Vec::new(rt.alloc());
-    let read = copy_items(&mut folder, &mut reader, &mut first, &mut second);
-    assert!(rt; read.is_ok());
-    assert_eq!(rt; first.as_slice(), WHOLE.as_slice());
-    assert_eq!(rt; second.as_slice(), SHORT.as_slice());
+    let is_read = write_both(rt.alloc(), &mut first, &mut second)?;
+    assert!(rt; is_read);
+    bytes_are(&rt, 1, first.as_slice(), WHOLE.as_slice());
+    bytes_are(&rt, 2, second.as_slice(), SHORT.as_slice());
     Ok(())
 }
 
@@ -113,15 +134,14 @@ fn both_versions_have_the_same_items(rt: HostRuntime) -> Result<(), Fail> {
 fn each_front_of_the_second_version_is_truncated(rt: HostRuntime) -> Result<(), Fail> {
     for length in 0..61usize {
         let wanted = format!(in rt.alloc(); "Truncated {length}")?;
-        let by_seven = read(rt.alloc(), &SHORT[..length], 7)?;
-        assert_eq!(rt; by_seven, wanted);
+        is_read(&rt, rt.alloc(), &SHORT[..length], 7, wanted.as_str())?;
     }
     Ok(())
 }
 
 #[test]
 fn damages_of_the_second_version_are_named(rt: HostRuntime) -> Result<(), Fail> {
-    let damages: [(usize, &[u8], usize, &str); 14] = [
+    const DAMAGES: &[(usize, &[u8], usize, &str)] = &[
         (60, &[4], 61, "BadCount 60"),
         (59, &[2], 60, "BadCount 59"),
         (58, &[5], 59, "BadTag 58"),
@@ -149,10 +169,9 @@ fn damages_of_the_second_version_are_named(rt: HostRuntime) -> Result<(), Fail> 
         (57, &[0x80, 1], 58, "second"),
         (14, &[5, 2], 14, "BadTag 60"),
     ];
-    for (front, piece, back, wanted) in damages {
-        let bytes = edited(rt.alloc(), front, piece, back)?;
-        let text = read(rt.alloc(), bytes.as_slice(), 7)?;
-        assert_eq!(rt; text.as_str(), wanted);
+    for (front, piece, back, wanted) in DAMAGES {
+        let bytes = edited(rt.alloc(), *front, *piece, *back)?;
+        is_read(&rt, rt.alloc(), &bytes, 7, wanted)?;
     }
     Ok(())
 }
@@ -165,59 +184,69 @@ fn cases(alloc: Global, behind: &[u8]) -> Result<Vec<u8>, AllocError> {
     Ok(bytes)
 }
 
+// This comes of reading so many cases, of which two are there.
+fn cases_are(rt: &impl Abort, alloc: Global, count: u8, wanted: &str) -> Result<(), Fail> {
+    let dead: [u8; 9] = [4, 0, 0, 0, 0, 0, 0, 0, 0];
+    let mut bytes = cases(alloc, &[5, count])?;
+    bytes.extend_from_slice(&dead)?;
+    bytes.extend_from_slice(&dead)?;
+    is_read(rt, alloc, &bytes, 7, wanted)
+}
+
+const COUNTS: &[(u8, &str)] = &[
+    (2u8, "first"),
+    (3, "Truncated 29"),
+    (0, "BadNumber 10"),
+    (1, "BadNumber 10"),
+    (65, "BadNumber 10"),
+];
+
 #[test]
 fn several_root_sections_are_counted(rt: HostRuntime) -> Result<(), Fail> {
-    let dead: [u8; 9] = [4, 0, 0, 0, 0, 0, 0, 0, 0];
-    for (count, wanted) in [
-        (2u8, "first"),
-        (3, "Truncated 29"),
-        (0, "BadNumber 10"),
-        (1, "BadNumber 10"),
-        (65, "BadNumber 10"),
-    ] {
-        let mut bytes = cases(rt.alloc(), &[5, count])?;
-        bytes.extend_from_slice(&dead)?;
-        bytes.extend_from_slice(&dead)?;
-        let text = read(rt.alloc(), bytes.as_slice(), 7)?;
-        assert_eq!(rt; text.as_str(), wanted);
+    for (count, wanted) in COUNTS {
+        cases_are(&rt, rt.alloc(), *count, wanted)?;
     }
     Ok(())
 }
 
-#[test]
-fn cases_stand_behind_the_marks_alone(rt: HostRuntime) -> Result<(), Fail> {
-    let mut bytes = cases(rt.alloc(), &[5, 2, 4, 0, 0, 0, 0, 0, 0, 0, 0])?;
-    bytes.extend_from_slice(&[5, 2])?;
-    let text = read(rt.alloc(), bytes.as_slice(), 7)?;
-    assert_eq!(rt; text.as_str(), "BadTag 20");
-    let mut out = Vec::new(rt.alloc());
-    write_item(&Item::Cases(64), &mut out)?;
-    write_item2(&Item::Cases(64), Seen::none(), &mut out)?;
-    assert_eq!(rt; out.as_slice(), [5, 64, 5, 64].as_slice());
-    Ok(())
+fn put_cases(out: &mut Vec<u8>) -> Result<(), AllocError> {
+    write_item(&Item::Cases(64), out)?;
+    write_item2(&Item::Cases(64), Seen::none(), out)
 }
 
 #[test]
-fn steps_are_named_by_how_far_back_they_stand(rt: HostRuntime) -> Result<(), Fail> {
+fn cases_stand_behind_the_marks_alone(rt: HostRuntime) -> Result<(), Fail> {
+    let bytes = cases(rt.alloc(), &[5, 2, 4, 0, 0, 0, 0, 0, 0, 0, 0, 5, 2])?;
+    is_read(&rt, rt.alloc(), &bytes, 7, "BadTag 20")?;
+    let mut out = Vec::new(rt.alloc());
+    put_cases(&mut out)?;
+    bytes_are(&rt, 0, out.as_slice(), [5, 64, 5, 64].as_slice());
+    Ok(())
+}
+
+// Dead ends, a leaf and the end, behind three steps of 300 sections.
+fn put_ends(alloc: Global, out: &mut Vec<u8>) -> Result<(), AllocError> {
     let seen = Seen {
         steps: 3,
         sections: 300,
     };
+    let leaf = Item::Leaf(Items::from_vec([3].to_vec(alloc)?));
+    write_item2(&Item::Dead(2), seen, out)?;
+    write_item2(&Item::Dead(4), seen, out)?;
+    write_item2(&leaf, seen, out)?;
+    write_item2(&Item::End, seen, out)
+}
+
+#[test]
+fn steps_are_named_by_how_far_back_they_stand(rt: HostRuntime) -> Result<(), Fail> {
     let mut out = Vec::new(rt.alloc());
-    write_item2(&Item::Dead(2), seen, &mut out)?;
-    write_item2(&Item::Dead(4), seen, &mut out)?;
-    write_item2(
-        &Item::Leaf(Items::from_vec([3].to_vec(rt.alloc())?)),
-        seen,
-        &mut out,
-    )?;
-    write_item2(&Item::End, seen, &mut out)?;
+    put_ends(rt.alloc(), &mut out)?;
     let wanted: [u8; 20] = [
         4, 1, // one back
         4, 0xff, 0xff, 0xff, 0xff, 0xff, 0xff, 0xff, 0xff, 0xff, 1, // one ahead, modulo 2^64
         3, 1, 0, // the next
         6, 0xac, 2, 3, // 300 sections and three steps
     ];
-    assert_eq!(rt; out.as_slice(), wanted.as_slice());
+    bytes_are(&rt, 0, out.as_slice(), wanted.as_slice());
     Ok(())
 }
