@@ -3,12 +3,16 @@
 on, in one document in reading order. docs/PROOFS.md, "How to read the statement", says how.
 
 Use, in the repository:   python3 tools/statement.py > statement.md
+                          python3 tools/statement.py --page docs/PROOFS.md
 
 The clause is that of `fx_run` in crates/fx_top/src/run.rt. From what it cites the closure is taken
 over specs/ of all crates: a definition's text, signature and clauses. A type of code that a
 definition names stands there with its model. A lemma (its type ends in an equation, an order or a
 predicate) that a definition cites in a proof part isn't followed further: its type says all, and
 the prover has read its proof. What the toolchain's library defines isn't there.
+
+With --page it writes a list into a page, between two marks: in which file each definition of the
+statement stands that the page names in backticks above it.
 
 Order: subjects as in SUBJECTS, each with its crates; in a crate the modules so that a word is said
 before it is used, where they allow it, and else as in specs/Lib.antt; declarations as they stand.
@@ -20,6 +24,7 @@ import collections
 import os
 import re
 import sys
+import textwrap
 
 sys.path.insert(0, os.path.dirname(os.path.abspath(__file__)))
 from antt_text import CODE_USE, GHOST, leaves, read, without_comments  # noqa: E402
@@ -52,6 +57,9 @@ ABOUT = """It is the clause of the program's one call, and all that this clause 
 text of its file, with the sentence above it. Of {lemmas} lemmas that definitions cite where a value
 carries a proof, the types alone stand here. Of a type of code there are its fields and its model.
 Words of the toolchain's library aren't here. `docs/PROOFS.md` says how to read it."""
+
+MARKS = ("<!-- made by tools/statement.py --page -->\n", "<!-- end -->\n")
+
 
 def depth_words(text):
     """The words of a text that stand in no bracket, with '()' for a bracketed part."""
@@ -342,6 +350,21 @@ class Statement:
                 row[2] += key[0] == "Code"
         return rows
 
+    def page(self, text):
+        """A page whose list of files, between its two marks, is made anew."""
+        before, _, rest = text.partition(MARKS[0])
+        _, _, after = rest.partition(MARKS[1])
+        named, of_file = set(re.findall(r"`(\w+)", before)), collections.defaultdict(set)
+        for key in self.kind:
+            name = self.name(key).rpartition(".")[2]
+            if name in named and re.search("[A-Z_]", name) and self.has_text(key):
+                of_file[self.place(key)].add(name)
+        rows = [f"- `{file}`: " + ", ".join(f"`{name}`" for name in sorted(names))
+                for file, names in sorted(of_file.items())]
+        lines = [line for row in rows for line in textwrap.wrap(
+            row, 100, subsequent_indent="  ", break_long_words=False, break_on_hyphens=False)]
+        return before + MARKS[0] + "\n" + "\n".join(lines) + "\n\n" + MARKS[1] + after
+
     def print_document(self, keys):
         """The document, in Markdown."""
         rows, out = self.rows(keys), print
@@ -398,6 +421,8 @@ def words_of(arguments):
                      "definition of that name")
     one.add_argument("--list", action="store_true", help="a line for each: its lines, what it is, "
                      "where it stands")
+    one.add_argument("--page", metavar="PAGE", help="writes into a page, between its two marks, in "
+                     "which file each definition stands that it names above them")
     one.add_argument("--write", action="store_true", help="lowers the numbers of "
                      "tools/statement.txt to the counts; it raises none")
     return words.parse_args(arguments)
@@ -452,6 +477,13 @@ def main(arguments):
     elif words.list:
         for key in keys:
             print(f"{it.lines(key):5} {it.kind[key]:12} {it.name(key)}")
+    elif words.page is not None:
+        text = read(words.page)
+        if not all(mark in text for mark in MARKS):
+            print(f"statement.py: {words.page} hasn't both marks", file=sys.stderr)
+            return 2
+        with open(words.page, "w", encoding="utf-8") as out:
+            out.write(it.page(text))
     elif not (words.count or words.quiet or words.write):
         it.print_document(keys)
     if arguments and not words.quiet:
