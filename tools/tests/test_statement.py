@@ -56,6 +56,11 @@ class OfTheDocument(unittest.TestCase):
         self.assertEqual([self.it.name(ways[0][0])], ["fx_top.specs.Run.IsRun"])
         self.assertEqual(list(self.it.why("IsNoDefinition")), [])
 
+    def test_the_page_says_where_its_names_stand(self):
+        text = statement.read(f"{TOP}/docs/PROOFS.md")
+        self.assertTrue(self.it.page(text) == text, "tools/statement.py --page docs/PROOFS.md")
+        self.assertIn("- `crates/fx_top/specs/Run.antt`: `IsRun`", text)
+
     def test_lemmas_have_their_types_alone(self):
         lemma = self.keys[self.at["facts.specs.Ranges.is_below_in"]]
         self.assertEqual(self.it.kind[lemma], "lemma")
