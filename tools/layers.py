@@ -1,18 +1,19 @@
 #!/usr/bin/env python3
-"""Holds crates.txt to its layers, and the picture of them in docs/DESIGN.md to crates.txt.
+"""Holds crates.txt to its layers, and the list of them in docs/DESIGN.md to crates.txt.
 
 Use, in the repository:   python3 tools/layers.py [--write]
 
 crates.txt has the crates by layer: a line `# name` begins one, the lowest stands first. A crate
-stands on crates of earlier lines alone. The picture has the layers from the top, each with its
-crates and the layers that they stand on. Ends with 1, and prints a line for each fault: a crate
-stands in no layer, or above one that it stands on; the picture isn't that of crates.txt. Else it
-prints nothing.
-  --write   puts the picture of crates.txt into docs/DESIGN.md
+stands on crates of earlier lines alone. The list has the layers from the top, each with the layers
+that it stands on and its crates, and of each crate the first sentence of its README. Ends with 1,
+and prints a line for each fault: a crate stands in no layer, or above one that it stands on; the
+list isn't that of crates.txt and the READMEs. Else it prints nothing.
+  --write   puts the list into docs/DESIGN.md
 """
 import os
 import re
 import sys
+import textwrap
 
 TOP = os.path.dirname(os.path.dirname(os.path.abspath(__file__)))
 DESIGN = f"{TOP}/docs/DESIGN.md"
@@ -41,16 +42,26 @@ def layers():
     return names, crates
 
 
+def purpose(name):
+    """What a crate is for: the first sentence of its README."""
+    _, paragraph, *_ = read(f"{TOP}/crates/{name}/README.md").split("\n\n")
+    return re.match(r"(?s)(.*?\.)(\s|$)", paragraph + "\n")[1].replace("\n", " ")
+
+
 def picture(names, crates):
-    """The picture of the layers, the highest first."""
-    yield "| | Layer | Crates | Stands on layers |"
-    yield "|---|---|---|---|"
+    """The list of the layers, the highest first."""
     for number in range(len(names), 0, -1):
         inside = [name for name, (layer, _) in crates.items() if layer == number]
         below = {crates[it][0]
                  for name in inside for it in crates[name][1] if it in crates} - {number}
-        yield (f"| {number} | {names[number - 1]} | {', '.join(f'`{it}`' for it in inside)} | "
-               f"{', '.join(map(str, sorted(below)))} |")
+        on = f" (on {', '.join(map(str, sorted(below)))})" if below else ""
+        yield from textwrap.wrap(f"**{number}: {names[number - 1]}**{on}", 100)
+        yield ""
+        for name in inside:
+            yield from textwrap.wrap(
+                f"- [`{name}`](../crates/{name}/README.md): {purpose(name)}", 100,
+                subsequent_indent="  ", break_long_words=False, break_on_hyphens=False)
+        yield ""
 
 
 def main(words):
@@ -74,7 +85,7 @@ def main(words):
         with open(DESIGN, "w", encoding="utf-8") as it:
             it.write(text[: found.start()] + wanted + text[found.end() :])
     elif found[0] != wanted:
-        faults.append("docs/DESIGN.md: its layers aren't those of crates.txt: python3 "
+        faults.append("docs/DESIGN.md: its layers aren't those of crates.txt and READMEs: python3 "
                       "tools/layers.py --write puts them there")
     for it in faults:
         print(it)
