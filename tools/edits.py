@@ -54,7 +54,8 @@ REFUSED = ("refused", "by a limit", "by a name")
 # a function's first line, and that of a block of them, as `rt fmt` lays them out
 FUNCTION = re.compile(r"^( *)(?:pub(?:\([a-z]+\))? )?(?:const |unsafe )*fn (\w+)", re.MULTILINE)
 BLOCK = re.compile(r"^(?:pub |unsafe )*(impl|trait|mod)\b", re.MULTILINE)
-TYPE = re.compile(r"(?:unsafe )?impl(?:<[^{]*?>)? (?:[A-Za-z:]+(?:<[^{]*?>)? for )?(\w+)")
+TYPE = re.compile(r"(?:unsafe )?impl(?:<[^{]*?>)? "
+                  r"(?:(?:\w+::)*(\w+)(?:<(?:\w+::)*(\w+)[^{]*?)? for )?(?:\w+::)*(\w+)")
 # what `rt check` says of a function, and a line that names a place
 FATE = re.compile(r"^fn (\S+): (.*)$", re.MULTILINE)
 PLACE = re.compile(r"(?:note: )?\S+:\d+:\d+: ")
@@ -136,8 +137,10 @@ def function_at(name, path, text, place):
     if margin:
         block = list(BLOCK.finditer(text, 0, heads[-1].start()))[-1:]
         kind = TYPE.match(text, block[0].start()) if block else None
-        # (the type may be of another module)
-        return f"{kind[1]}::{called}" if kind else None
+        # (the type may be of another module; after it stand the trait's name and its argument, if
+        # that isn't a parameter)
+        more = [it for it in kind.groups()[:2] if it and len(it) > 1] if kind else []
+        return f"{kind[3]}{''.join(more)}::{called}" if kind else None
     module = path.removeprefix("src/").removesuffix(".rt").split("/")
     return "::".join([name, *(module if module not in (["lib"], ["main"]) else []), called])
 

@@ -176,12 +176,13 @@ class Case(unittest.TestCase):
 
     def test_the_function_of_a_place(self):
         text = (
-            "const A: u8 = 1;\n\nimpl<T> Of<T> for Kind<T> {\n    fn low(&self) -> u8\n"
+            "const A: u8 = 1;\n\nimpl<T> a::Of<b::Xs<T>> for Kind<T> {\n    fn low(&self) -> u8\n"
             "    ensures\n        one: result == 2;\n    {\n        3\n    }\n}\n\ntrait Way {\n"
             "    fn way() -> u8 {\n        4\n    }\n}\n\npub(crate) fn high(\n    a: u8,\n"
-            ") -> u8 {\n    5\n}\n"
+            ") -> u8 {\n    5\n}\n\nimpl Kind<u8> {\n    fn new() -> u8 {\n        6\n    }\n}\n"
         )
-        wanted = {"1": None, "2": None, "3": "Kind::low", "4": None, "5": "n::m::high"}
+        wanted = {"1": None, "2": None, "3": "KindOfXs::low", "4": None, "5": "n::m::high",
+                  "6": "Kind::new"}
         for word, function in wanted.items():
             place = text.index(f" {word}")
             self.assertEqual(tool.function_at("n", "src/m.rt", text, place), function, word)
