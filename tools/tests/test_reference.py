@@ -80,7 +80,7 @@ class Rows(unittest.TestCase):
                              (status, "".join(x + "\n" for x in lines)), script)
 
     def test_faults_of_programs(self):
-        rows = rows_of("FORMATS.md", "Fault", "It comes where, and its byte", "Example")
+        rows = rows_of("FORMATS.md", "Fault", "When it comes, and its byte", "Example")
         self.assertGreaterEqual(len(rows), 9)
         with open(os.path.join(TOP, "docs", "FORMATS.md"), encoding="utf-8") as file:
             page = file.read()
