@@ -264,8 +264,8 @@ def put(path, text):
 
 def refusals(said, functions):
     """What refuses each of these functions in the words of `rt check --only`: the first place in
-    its proof's files, or of a clause that has no proof there. One that is proved isn't there, nor
-    is one that only a proof's file refuses as a name is gone."""
+    its proof's files, or of a clause that has no proof there. One that is proved isn't there. Nor
+    is one that stands on a call that isn't proved, stops at a limit, or names what is gone."""
     found = {}
     places = [it for it in said.split("\n") if PLACE.match(it)]
     for function, told in FATE.findall(said):
@@ -276,8 +276,9 @@ def refusals(said, functions):
         clauses = [f"(`{it}`)" for it in re.findall(r"`([\w-]+)`", told)]
         own = [it for it in places if folder in it.removeprefix("note: ").partition(":")[0]]
         own += [it for it in places if any(clause in it for clause in clauses)]
-        if not own or not all(GONE.match(it) for it in own):
-            found[asked] = next((it for it in own if not GONE.match(it)), told)
+        real = [it for it in own if not GONE.match(it)]
+        if real or told.startswith("no proof"):
+            found[asked] = real[0] if real else told
     return found
 
 

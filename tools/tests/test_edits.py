@@ -166,12 +166,14 @@ class Case(unittest.TestCase):
             "fn n::a::B::c: not proved",
             "fn n::a::d: not proved",
             "fn n::f: stopped at the step limit (9)",
+            "fn n::i: not proved; it calls `n::a::B::c`, which is not proved",
+            "fn n::j: no proof: expected answers in ./proofs/j/Answers.antt",
             "fn n::g: proved",
             "fn n::h: not proved",
         ])
-        self.assertEqual(tool.refusals(told, ["B::c", "n::a::d", "n::f", "n::g"]), {
+        self.assertEqual(tool.refusals(told, ["B::c", "n::a::d", "n::f", "n::g", "n::i", "n::j"]), {
             "B::c": "./proofs/a/B/c/Answers.antt:2:1: error: `rw`: no occurrence",
-            "n::f": "stopped at the step limit (9)",
+            "n::j": "no proof: expected answers in ./proofs/j/Answers.antt",
         })
 
     def test_the_function_of_a_place(self):
