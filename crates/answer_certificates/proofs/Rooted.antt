@@ -22,7 +22,7 @@ use Rattle.bisect.specs.declared.settler.State.{State}
 use Rattle.bisect.specs.declared.outcome.Leaf.{Leaf}
 use Rattle.bisect.specs.Trees as bisect
 use Rattle.bisect.specs.Boxes.{AreBoxes, first_open, leaves_of}
-use Rattle.case_trees.specs.declared.outcome.OpenLeaf.{OpenLeaf}
+use Rattle.bisect.specs.declared.outcome.OpenLeaf.{OpenLeaf}
 use Rattle.case_trees.specs.Listed.{Listed, AreListed, box_count, or_later, first_open_from}
 use Rattle.case_trees.specs.Listed.{all_leaves}
 use Rattle.settler.specs.Standing.{AreStates}

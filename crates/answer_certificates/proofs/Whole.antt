@@ -26,12 +26,13 @@ use Rattle.box_tree.specs.Plans.{cut_at, pieces_at}
 use Rattle.box_tree.proofs.InRanges.{root_pieces}
 use Rattle.bisect.specs.declared.settler.State.{State}
 use Rattle.bisect.specs.declared.outcome.Leaf.{Leaf}
+use Rattle.bisect.specs.declared.outcome.OpenLeaf.{OpenLeaf}
 use Rattle.bisect.specs.declared.outcome.Outcome.{Outcome}
 use Rattle.bisect.specs.declared.outcome.Outcome.TheVariants as outcome
 use Rattle.bisect.specs.Trees.{tree_of}
 use Rattle.bisect.specs.Trees as bisect
 use Rattle.bisect.specs.Boxes.{AreBoxes, first_open, leaves_of}
-use Rattle.bisect.specs.Answers.{IsAnswer}
+use Rattle.bisect.specs.Answers.{IsAnswer, open_at}
 use Rattle.bisect.specs.Walks.{boxes_from, IsListed}
 use Rattle.settler.specs.Standing.{AreStates}
 use Rattle.settler.specs.Answers.{plan_of}
@@ -72,9 +73,9 @@ same_leaves n m xs ys e = (cc, cc)
 not_limit : (n : ℕ) (xs : List Leaf) → outcome.Leaves n xs ≡ outcome.BoxLimit → ⊥
 not_limit n xs e = cc
 
-not_unproved : (n m : ℕ) (xs : List Leaf) (path : List ℕ) (goal : ℕ)
-    → outcome.Leaves n xs ≡ outcome.Unproved m path goal → ⊥
-not_unproved n m xs path goal e = cc
+not_unproved : (n m : ℕ) (xs : List Leaf) (x : OpenLeaf)
+    → outcome.Leaves n xs ≡ outcome.Unproved m x → ⊥
+not_unproved n m xs x e = cc
 
 -- what the answer says is said of the list that is computed
 listed_answer : IsOneAnswer → (t : bisect.Tree) → IsListed t
@@ -98,8 +99,9 @@ listed_answer one t listed limit count leaves a =
           )) in
           (e, q.0, q.1))
           (λ x n e. absurd (not_unproved count
-          (length boxes) leaves x.0 x.1 (one t limit (outcome.Leaves count leaves)
-          (outcome.Unproved (length boxes) x.0 x.1) a (boxes, listed.boxes, (l, e, refl)))))
+          (length boxes) leaves (open_at 0 x) (one t limit (outcome.Leaves count leaves)
+          (outcome.Unproved (length boxes) (open_at 0 x)) a
+          (boxes, listed.boxes, (l, e, refl, refl)))))
           refl
     ]
 

@@ -6,12 +6,13 @@ use Rattle.std.specs.Cmp.Lexicographic.{slice_cmp}
 use Rattle.std.specs.declared.cmp.Ordering.TheVariants.{Less, Greater}
 use Rattle.std.proofs.Common.{sym, ◌∙◌, ap, subst, inl, inr, arith}
 use Rattle.std.proofs.lemmas.Cmp.{nat_list_cmp_total}
+use Rattle.bisect.specs.declared.outcome.OpenLeaf.{OpenLeaf}
 use Rattle.bisect.specs.declared.outcome.Outcome.{Outcome}
 use Rattle.bisect.specs.declared.outcome.Outcome.TheVariants as outcome
 use Rattle.bisect.specs.Trees.{Tree}
 use Rattle.bisect.specs.Boxes.{IsBefore, AreBoxes, first_open}
 use Rattle.bisect.proofs.Boxes.{not_some}
-use Rattle.bisect.specs.Answers.{IsAnswer, IsAnswerOf}
+use Rattle.bisect.specs.Answers.{IsAnswer, IsAnswerOf, open_at}
 use Rattle.bisect.proofs.Listings.{Has, from_contains, to_contains}
 
 -- ---- order
@@ -78,28 +79,39 @@ both_first : (o : Option (List ℕ × ℕ)) (x y : List ℕ × ℕ) → o ≡ So
 both_first None x y e f = cc
 both_first (Some z) x y e f = cc
 
-same_unproved : (n m : ℕ) (x y : List ℕ × ℕ) → n ≡ m → x ≡ y
-    → outcome.Unproved n x.0 x.1 ≡ outcome.Unproved m y.0 y.1
-same_unproved n m x y d e = ap (λ (k : ℕ). outcome.Unproved k x.0 x.1) d
-    ∙ ap (λ (z : List ℕ × ℕ). outcome.Unproved m z.0 z.1) e
+-- two leaves with the same path and goal, of the same case
+same_leaf : (x y : OpenLeaf) (at other : List ℕ × ℕ) → at ≡ other → x ≡ open_at 0 at
+    → y ≡ open_at 0 other → x ≡ y
+same_leaf x y at other e p q = p ∙ ap (open_at 0) e ∙ sym q
+
+of_first_case : (x : OpenLeaf) → x.case ≡ 0 → x ≡ open_at 0 (x.path, x.goal)
+of_first_case x e = ap (λ (k : ℕ). open_at k (x.path, x.goal)) e
+
+same_unproved : (n m : ℕ) (x y : OpenLeaf) → n ≡ m → x ≡ y
+    → outcome.Unproved n x ≡ outcome.Unproved m y
+same_unproved n m x y d e = ap (λ (k : ℕ). outcome.Unproved k x) d
+    ∙ ap (λ (z : OpenLeaf). outcome.Unproved m z) e
 
 by_list : (t : Tree) (limit : ℕ) (ps : List (List ℕ)) (f g : Outcome) → IsAnswerOf t limit ps f
     → IsAnswerOf t limit ps g → f ≡ g
 by_list t limit ps outcome.BoxLimit outcome.BoxLimit a b = refl
-by_list t limit ps outcome.BoxLimit (outcome.Unproved n p g) a b = let l = b.0 in
+by_list t limit ps outcome.BoxLimit (outcome.Unproved n x) a b = let l = b.0 in
     absurd (omega (arith, a, l))
 by_list t limit ps outcome.BoxLimit (outcome.Leaves n ls) a b = let l = b.0 in
     absurd (omega (arith, a, l))
-by_list t limit ps (outcome.Unproved n p g) outcome.BoxLimit a b = let l = a.0 in
+by_list t limit ps (outcome.Unproved n x) outcome.BoxLimit a b = let l = a.0 in
     absurd (omega (arith, b, l))
-by_list t limit ps (outcome.Unproved n p g) (outcome.Unproved m q h) a b = same_unproved n m (p, g)
-    (q, h) (a.2 ∙ sym b.2) (both_first (first_open t ps) (p, g) (q, h) a.1 b.1)
-by_list t limit ps (outcome.Unproved m p g) (outcome.Leaves n ls) a b =
-    absurd (not_some (p, g) (sym a.1 ∙ b.1))
+by_list t limit ps (outcome.Unproved n x) (outcome.Unproved m y) a b =
+    same_unproved n m x y (a.2 ∙ sym b.2)
+    (same_leaf x y (x.path, x.goal) (y.path, y.goal)
+    (both_first (first_open t ps) (x.path, x.goal) (y.path, y.goal) a.1 b.1)
+    (of_first_case x a.3) (of_first_case y b.3))
+by_list t limit ps (outcome.Unproved m x) (outcome.Leaves n ls) a b =
+    absurd (not_some (x.path, x.goal) (sym a.1 ∙ b.1))
 by_list t limit ps (outcome.Leaves n ls) outcome.BoxLimit a b = let l = a.0 in
     absurd (omega (arith, b, l))
-by_list t limit ps (outcome.Leaves n ls) (outcome.Unproved m p g) a b =
-    absurd (not_some (p, g) (sym b.1 ∙ a.1))
+by_list t limit ps (outcome.Leaves n ls) (outcome.Unproved m x) a b =
+    absurd (not_some (x.path, x.goal) (sym b.1 ∙ a.1))
 by_list t limit ps (outcome.Leaves n ls) (outcome.Leaves m ks) a b =
     let e : n ≡ m = a.2 ∙ sym b.2 in let f : ls ≡ ks = a.3 ∙ sym b.3 in cc
 

@@ -8,7 +8,7 @@ ghost use Rattle.bisect.specs.Trees.{tree_of, children};
 ghost use Rattle.bisect.specs.Answers.{IsAnswer};
 ghost use Rattle.bisect.specs.Walks.{StaysWithin, boxes_from, seen_by, with_one, after};
 
-use crate::outcome::{Leaf, Outcome};
+use crate::outcome::{Leaf, OpenLeaf, Outcome};
 use crate::settler::{Posted, Settler, State, Verdict};
 use box_tree::{Cut, Plan};
 use fx_edge::{Items, Path};
@@ -147,8 +147,11 @@ pub fn run_alone<S: Settler>(
     match walk.first {
         Some((path, goal)) => Ok(Outcome::Unproved {
             boxes: walk.boxes,
-            path,
-            goal,
+            leaf: OpenLeaf {
+                case: 0,
+                path,
+                goal,
+            },
         }),
         None => Ok(Outcome::Leaves {
             boxes: walk.boxes,

@@ -10,5 +10,5 @@ mod settler;
 pub use alone::{Walk, children, run_alone, visit};
 pub use laws::{answers_are_told, boxes_are_listed, leaves_cover, one_answer, walks_see};
 pub use lines::lines_of;
-pub use outcome::{Leaf, Outcome};
+pub use outcome::{Leaf, OpenLeaf, Outcome};
 pub use settler::{Posted, Settler, State, Verdict};

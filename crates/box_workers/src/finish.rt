@@ -17,7 +17,7 @@ use crate::fate::Held;
 use crate::record::Record;
 use crate::site::Site;
 use crate::task::BoxTask;
-use bisect::{Leaf, Outcome, Settler, Walk};
+use bisect::{Leaf, OpenLeaf, Outcome, Settler, Walk};
 use fact_board::Token;
 use fx_edge::{Gate, Items, Path};
 use std::alloc::AllocError;
@@ -249,8 +249,11 @@ pub(crate) fn finish<S: Settler, G: Gate>(
     match first_open(walk.leaves.as_slice()) {
         Some(open) => Ok(Outcome::Unproved {
             boxes: walk.boxes,
-            path: open.0,
-            goal: open.1,
+            leaf: OpenLeaf {
+                case: 0,
+                path: open.0,
+                goal: open.1,
+            },
         }),
         None => Ok(Outcome::Leaves {
             boxes: walk.boxes,

@@ -9,12 +9,9 @@ use Rattle.bisect.specs.declared.outcome.Outcome.{Outcome}
 use Rattle.bisect.specs.declared.outcome.Outcome.TheVariants as outcome
 use Rattle.bisect.specs.Trees.{Tree}
 use Rattle.bisect.specs.Boxes.{AreBoxes, leaves_of}
-use Rattle.bisect.specs.Answers.{IsAnswer, IsAnswerOf}
-use Rattle.case_trees.specs.declared.outcome.OpenLeaf.{OpenLeaf}
-use Rattle.case_trees.specs.declared.outcome.CaseOutcome.{CaseOutcome}
-use Rattle.case_trees.specs.declared.outcome.CaseOutcome.TheVariants as cases
-use Rattle.case_trees.specs.Listed.{Listed, AreListed, open_at, or_later, first_open_from}
-use Rattle.case_trees.specs.Listed.{all_leaves}
+use Rattle.bisect.specs.Answers.{IsAnswer, IsAnswerOf, open_at}
+use Rattle.bisect.specs.declared.outcome.OpenLeaf.{OpenLeaf}
+use Rattle.case_trees.specs.Listed.{Listed, AreListed, or_later, first_open_from, all_leaves}
 use Rattle.case_trees.proofs.Listed.{listed}
 use Rattle.case_trees.specs.Answers.{IsAnswerBy, IsAnswerOfAll}
 use Rattle.case_trees.specs.Gathered.{Seen, nothing_seen, boxes_left, or_open, leaves_with}
@@ -23,19 +20,19 @@ use Rattle.case_trees.specs.Gathered.{HasBoxes}
 
 pub within : (t : Tree) (limit : ℕ) (o : Outcome) → IsAnswer t limit o → IsWithin limit o
 within t limit outcome.BoxLimit a = tt
-within t limit (outcome.Unproved n p g) a = let l = a.2.0 in let c = a.2.2 in omega (arith, l, c)
+within t limit (outcome.Unproved n x) a = let l = a.2.0 in let c = a.2.2 in omega (arith, l, c)
 within t limit (outcome.Leaves n ls) a = let l = a.2.0 in let c = a.2.2 in omega (arith, l, c)
 
 -- ---- from nothing
-from_nothing : (limit : ℕ) (ls : List Listed) (found : CaseOutcome)
+from_nothing : (limit : ℕ) (ls : List Listed) (found : Outcome)
     → EndsBy (nothing_seen limit) ls found → IsAnswerBy limit ls found
-from_nothing limit ls cases.BoxLimit e = omega (arith, e)
-from_nothing limit ls (cases.Unproved n x) e = let l = e.0 in let c = e.2 in
+from_nothing limit ls outcome.BoxLimit e = omega (arith, e)
+from_nothing limit ls (outcome.Unproved n x) e = let l = e.0 in let c = e.2 in
     (omega (arith, l), e.1, omega (arith, c))
-from_nothing limit ls (cases.Leaves n xs) e = let l = e.0 in let c = e.2 in
+from_nothing limit ls (outcome.Leaves n xs) e = let l = e.0 in let c = e.2 in
     (omega (arith, l), e.1, omega (arith, c), e.3)
 
-pub starts : (trees : List Tree) (limit : ℕ) (found : CaseOutcome)
+pub starts : (trees : List Tree) (limit : ℕ) (found : Outcome)
     → EndsAs (nothing_seen limit) trees found → IsAnswerOfAll trees limit found
 starts trees limit found e = (e.0, e.1, from_nothing limit e.0 found e.2)
 
@@ -63,17 +60,17 @@ module _ (w : Seen) (t : Tree) (boxes : List (List ℕ)) (ls : List Listed)
   abbrev here : Option (List ℕ × ℕ) → Option OpenLeaf
   here o = or_open w.first (or_later w.cases o later)
 
-  joins : (o : Outcome) (found : CaseOutcome) → o ≢ outcome.BoxLimit
+  joins : (o : Outcome) (found : Outcome) → o ≢ outcome.BoxLimit
       → IsAnswerOf t (boxes_left w) boxes o → EndsBy (with_outcome w o) ls found
       → EndsBy w (listed t boxes ∷ ls) found
   joins outcome.BoxLimit found n a e = absurd (n refl)
-  joins (outcome.Leaves c xs) cases.BoxLimit n a e = let k = a.2 in omega (arith, k, e)
-  joins (outcome.Leaves c xs) (cases.Unproved m leaf) n a e =
+  joins (outcome.Leaves c xs) outcome.BoxLimit n a e = let k = a.2 in omega (arith, k, e)
+  joins (outcome.Leaves c xs) (outcome.Unproved m leaf) n a e =
       let k = a.2 in
       let l = e.0 in
       let d = e.2 in
       (omega (arith, k, l), ap here a.1 ∙ e.1, omega (arith, k, d))
-  joins (outcome.Leaves c xs) (cases.Leaves m ys) n a e =
+  joins (outcome.Leaves c xs) (outcome.Leaves m ys) n a e =
       let k = a.2 in
       let l = e.0 in
       let d = e.2 in
@@ -86,19 +83,19 @@ module _ (w : Seen) (t : Tree) (boxes : List (List ℕ)) (ls : List Listed)
         e.3 ∙ ap (λ zs. zs ++ all_leaves ls) (same ∙ ap (λ zs. w.leaves ++ zs) a.3)
             ∙ append_assoc w.leaves (leaves_of t boxes) (all_leaves ls),
       )
-  joins (outcome.Unproved c p g) cases.BoxLimit n a e = let k = a.2 in omega (arith, k, e)
-  joins (outcome.Unproved c p g) (cases.Unproved m leaf) n a e =
+  joins (outcome.Unproved c x) outcome.BoxLimit n a e = let k = a.2 in omega (arith, k, e)
+  joins (outcome.Unproved c x) (outcome.Unproved m leaf) n a e =
       let k = a.2 in
       let l = e.0 in
       let d = e.2 in (
         omega (arith, k, l),
-        ap here a.1 ∙ sym (hides w.first (open_at w.cases (p, g)) later) ∙ e.1,
+        ap here a.1 ∙ sym (hides w.first (open_at w.cases (x.path, x.goal)) later) ∙ e.1,
         omega (arith, k, d),
       )
-  joins (outcome.Unproved c p g) (cases.Leaves m ys) n a e =
-      absurd (not_none w.first (open_at w.cases (p, g)) later e.1)
+  joins (outcome.Unproved c x) (outcome.Leaves m ys) n a e =
+      absurd (not_none w.first (open_at w.cases (x.path, x.goal)) later e.1)
 
-pub goes_on : (w : Seen) (t : Tree) (more : List Tree) (o : Outcome) (found : CaseOutcome)
+pub goes_on : (w : Seen) (t : Tree) (more : List Tree) (o : Outcome) (found : Outcome)
     → w.boxes ≤ w.limit → IsAnswer t (boxes_left w) o → o ≢ outcome.BoxLimit
     → EndsAs (with_outcome w o) more found → EndsAs w (t ∷ more) found
 goes_on w t more o found room a n e =
@@ -111,7 +108,7 @@ list_of (t ∷ ts) h = let rest = list_of ts h.1 in (listed t h.0.0 ∷ rest.0, 
 
 pub over : (w : Seen) (t : Tree) (more : List Tree)
     → w.boxes ≤ w.limit → IsAnswer t (boxes_left w) outcome.BoxLimit → AllByRecursion HasBoxes more
-    → EndsAs w (t ∷ more) cases.BoxLimit
+    → EndsAs w (t ∷ more) outcome.BoxLimit
 over w t more room a h =
     let rest = list_of more h in
     let many = a.2 in
@@ -124,7 +121,7 @@ has_root t boxes are =
     let l = c.1 in omega (arith, l)
 
 pub at_none : (w : Seen) (t : Tree) (more : List Tree) → w.limit ≤ w.boxes → HasBoxes t
-    → AllByRecursion HasBoxes more → EndsAs w (t ∷ more) cases.BoxLimit
+    → AllByRecursion HasBoxes more → EndsAs w (t ∷ more) outcome.BoxLimit
 at_none w t more none b h =
     let rest = list_of more h in
     let some = has_root t b.0 b.1 in

@@ -8,14 +8,12 @@ use Rattle.bisect.specs.declared.outcome.Outcome.{Outcome}
 use Rattle.bisect.specs.declared.outcome.Outcome.TheVariants as outcome
 use Rattle.bisect.specs.Trees.{Tree}
 use Rattle.bisect.specs.Boxes.{AreBoxes, first_open, leaves_of}
-use Rattle.bisect.specs.Answers.{IsAnswer, IsAnswerOf}
-use Rattle.case_trees.specs.declared.outcome.OpenLeaf.{OpenLeaf}
-use Rattle.case_trees.specs.declared.outcome.CaseOutcome.{CaseOutcome}
-use Rattle.case_trees.specs.declared.outcome.CaseOutcome.TheVariants as cases
-use Rattle.case_trees.specs.Listed.{Listed, AreListed, box_count, open_at, or_later}
-use Rattle.case_trees.specs.Listed.{first_open_from, all_leaves}
+use Rattle.bisect.specs.Answers.{IsAnswer, IsAnswerOf, open_at}
+use Rattle.bisect.specs.declared.outcome.OpenLeaf.{OpenLeaf}
+use Rattle.case_trees.specs.Listed.{Listed, AreListed, box_count, or_later, first_open_from}
+use Rattle.case_trees.specs.Listed.{all_leaves}
 use Rattle.case_trees.proofs.Listed.{listed}
-use Rattle.case_trees.specs.Answers.{IsAnswerBy, IsAnswerOfAll, of_one}
+use Rattle.case_trees.specs.Answers.{IsAnswerBy, IsAnswerOfAll}
 
 -- a tree has one answer
 abbrev pub HasOneAnswer : Type 0
@@ -25,27 +23,27 @@ HasOneAnswer = (t : Tree) (limit : ℕ) (found other : Outcome) → IsAnswer t l
 -- ---- one tree
 -- the answer by a list of boxes with this first open leaf, where there may be enough
 abbrev told : Tree → List (List ℕ) → Option (List ℕ × ℕ) → Outcome
-told t boxes (Some (p, g)) = outcome.Unproved (length boxes) p g
+told t boxes (Some at) = outcome.Unproved (length boxes) (open_at 0 at)
 told t boxes None = outcome.Leaves (length boxes) (leaves_of t boxes)
 
 told_is : (t : Tree) (boxes : List (List ℕ)) (limit : ℕ) → AreBoxes t boxes → length boxes ≤ limit
     → (o : Option (List ℕ × ℕ)) → first_open t boxes ≡ o → IsAnswer t limit (told t boxes o)
-told_is t boxes limit are few (Some (p, g)) e = (boxes, are, (few, e, refl))
+told_is t boxes limit are few (Some at) e = (boxes, are, (few, e, refl, refl))
 told_is t boxes limit are few None e = (boxes, are, (few, e, refl, refl))
 
 abbrev count_in : Outcome → ℕ
-count_in (outcome.Unproved n p g) = n
+count_in (outcome.Unproved n x) = n
 count_in (outcome.Leaves n ls) = n
 count_in outcome.BoxLimit = 0
 
 abbrev first_in : Outcome → Option (List ℕ × ℕ)
-first_in (outcome.Unproved n p g) = Some (p, g)
+first_in (outcome.Unproved n x) = Some (x.path, x.goal)
 first_in (outcome.Leaves n ls) = None
 first_in outcome.BoxLimit = None
 
 abbrev leaves_in : Outcome → List Leaf
 leaves_in (outcome.Leaves n ls) = ls
-leaves_in (outcome.Unproved n p g) = []
+leaves_in (outcome.Unproved n x) = []
 leaves_in outcome.BoxLimit = []
 
 told_count : (t : Tree) (boxes : List (List ℕ)) (o : Option (List ℕ × ℕ))
@@ -145,36 +143,36 @@ module _ (one : HasOneAnswer) where
   both_some o x y e f = let g : Some x ≡ Some y = sym e ∙ f in cc
 
   same_unproved : (n m : ℕ) (x y : OpenLeaf) → n ≡ m → x ≡ y
-      → cases.Unproved n x ≡ cases.Unproved m y
-  same_unproved n m x y e f = ap₂ cases.Unproved e f
+      → outcome.Unproved n x ≡ outcome.Unproved m y
+  same_unproved n m x y e f = ap₂ outcome.Unproved e f
 
-  same_found : (n m : ℕ) (x y : List Leaf) → n ≡ m → x ≡ y → cases.Leaves n x ≡ cases.Leaves m y
-  same_found n m x y e f = ap₂ cases.Leaves e f
+  same_found : (n m : ℕ) (x y : List Leaf) → n ≡ m → x ≡ y → outcome.Leaves n x ≡ outcome.Leaves m y
+  same_found n m x y e f = ap₂ outcome.Leaves e f
 
   module _ (limit : ℕ) (xs ys : List Listed) (count : box_count xs ≡ box_count ys)
       (first : first_open_from 0 xs ≡ first_open_from 0 ys)
       (leaves : first_open_from 0 xs ≡ None → all_leaves xs ≡ all_leaves ys) where
-    by_lists : (found other : CaseOutcome) → IsAnswerBy limit xs found
+    by_lists : (found other : Outcome) → IsAnswerBy limit xs found
         → IsAnswerBy limit ys other → found ≡ other
-    by_lists cases.BoxLimit cases.BoxLimit a b = refl
-    by_lists cases.BoxLimit (cases.Unproved n x) a b = let l = b.0 in
+    by_lists outcome.BoxLimit outcome.BoxLimit a b = refl
+    by_lists outcome.BoxLimit (outcome.Unproved n x) a b = let l = b.0 in
         absurd (omega (arith, a, l, count))
-    by_lists cases.BoxLimit (cases.Leaves n ls) a b = let l = b.0 in
+    by_lists outcome.BoxLimit (outcome.Leaves n ls) a b = let l = b.0 in
         absurd (omega (arith, a, l, count))
-    by_lists (cases.Unproved n x) cases.BoxLimit a b = let l = a.0 in
+    by_lists (outcome.Unproved n x) outcome.BoxLimit a b = let l = a.0 in
         absurd (omega (arith, b, l, count))
-    by_lists (cases.Unproved n x) (cases.Unproved m y) a b = same_unproved n m x y
+    by_lists (outcome.Unproved n x) (outcome.Unproved m y) a b = same_unproved n m x y
         (a.2 ∙ count ∙ sym b.2) (both_some (first_open_from 0 ys) x y (sym first ∙ a.1) b.1)
-    by_lists (cases.Unproved n x) (cases.Leaves m ls) a b =
+    by_lists (outcome.Unproved n x) (outcome.Leaves m ls) a b =
         absurd (some_or_none (first_open_from 0 ys) x (sym first ∙ a.1) b.1)
-    by_lists (cases.Leaves n ls) cases.BoxLimit a b = let l = a.0 in
+    by_lists (outcome.Leaves n ls) outcome.BoxLimit a b = let l = a.0 in
         absurd (omega (arith, b, l, count))
-    by_lists (cases.Leaves n ls) (cases.Unproved m y) a b =
+    by_lists (outcome.Leaves n ls) (outcome.Unproved m y) a b =
         absurd (some_or_none (first_open_from 0 ys) y b.1 (sym first ∙ a.1))
-    by_lists (cases.Leaves n ls) (cases.Leaves m ks) a b =
+    by_lists (outcome.Leaves n ls) (outcome.Leaves m ks) a b =
         same_found n m ls ks (a.2 ∙ count ∙ sym b.2) (a.3 ∙ leaves a.1 ∙ sym b.3)
 
-  pub once : (trees : List Tree) (limit : ℕ) (found other : CaseOutcome)
+  pub once : (trees : List Tree) (limit : ℕ) (found other : Outcome)
       → IsAnswerOfAll trees limit found → IsAnswerOfAll trees limit other → found ≡ other
   once trees limit found other a b =
       by_lists limit a.0 b.0 (same_counts one trees a.0 b.0 a.1 b.1)
@@ -183,15 +181,17 @@ module _ (one : HasOneAnswer) where
 
 -- ---- one tree alone
 of_one_is : (t : Tree) (limit : ℕ) (found : Outcome) → IsAnswer t limit found
-    → IsAnswerOfAll (t ∷ []) limit (of_one found)
+    → IsAnswerOfAll (t ∷ []) limit found
 of_one_is t limit outcome.BoxLimit a = let l = a.2 in
     (listed t a.0 ∷ [], (refl, a.1, tt), omega (arith, l))
-of_one_is t limit (outcome.Unproved n p g) a =
+of_one_is t limit (outcome.Unproved n x) a =
     let l = a.2.0 in
-    let c = a.2.2 in (
+    let c = a.2.2 in
+    let first = ap (λ o. or_later 0 o None) a.2.1 in
+    let case = ap (λ (k : ℕ). Some (open_at k (x.path, x.goal))) (sym a.2.3) in (
       listed t a.0 ∷ [],
       (refl, a.1, tt),
-      (omega (arith, l), ap (λ o. or_later 0 o None) a.2.1, omega (arith, c)),
+      (omega (arith, l), first ∙ case, omega (arith, c)),
     )
 of_one_is t limit (outcome.Leaves n ls) a =
     let l = a.2.0 in
@@ -206,23 +206,26 @@ of_one_is t limit (outcome.Leaves n ls) a =
       ),
     )
 
-first_there : (o : Option (List ℕ × ℕ)) (p : List ℕ) (g : ℕ)
-    → or_later 0 o None ≡ Some (open_at 0 (p, g)) → o ≡ Some (p, g)
-first_there None p g e = absurd (none_some (open_at 0 (p, g)) e)
+first_there : (o : Option (List ℕ × ℕ)) (x : OpenLeaf) → or_later 0 o None ≡ Some x
+    → (o ≡ Some (x.path, x.goal)) × (x.case ≡ 0)
+first_there None x e = absurd (none_some e)
   where
-    none_some : (x : OpenLeaf) → None ≡ Some x → ⊥
-    none_some x f = cc
-first_there (Some (q, h)) p g e =
-    let same : open_at 0 (q, h) ≡ open_at 0 (p, g) = cc in
-    ap (λ (x : OpenLeaf). Some (x.path, x.goal)) same
+    none_some : None ≡ Some x → ⊥
+    none_some f = cc
+first_there (Some (q, h)) x e =
+    let same : open_at 0 (q, h) ≡ x = cc in (
+      ap (λ (y : OpenLeaf). Some (y.path, y.goal)) same,
+      ap (λ (y : OpenLeaf). y.case) (sym same),
+    )
 
 by_one : (t : Tree) (boxes : List (List ℕ)) (limit : ℕ) (found : Outcome)
-    → IsAnswerBy limit (listed t boxes ∷ []) (of_one found) → IsAnswerOf t limit boxes found
+    → IsAnswerBy limit (listed t boxes ∷ []) found → IsAnswerOf t limit boxes found
 by_one t boxes limit outcome.BoxLimit a = omega (arith, a)
-by_one t boxes limit (outcome.Unproved n p g) a =
+by_one t boxes limit (outcome.Unproved n x) a =
     let l = a.0 in
     let c = a.2 in
-    (omega (arith, l), first_there (first_open t boxes) p g a.1, omega (arith, c))
+    let first = first_there (first_open t boxes) x a.1 in
+    (omega (arith, l), first.0, omega (arith, c), first.1)
 by_one t boxes limit (outcome.Leaves n ls) a =
     let l = a.0 in
     let c = a.2 in (
@@ -233,12 +236,12 @@ by_one t boxes limit (outcome.Leaves n ls) a =
     )
 
 one_of : (t : Tree) (limit : ℕ) (found : Outcome) (ls : List Listed) → AreListed (t ∷ []) ls
-    → IsAnswerBy limit ls (of_one found) → IsAnswer t limit found
+    → IsAnswerBy limit ls found → IsAnswer t limit found
 one_of t limit found [] are a = absurd are
 one_of t limit found (l ∷ m ∷ ls) are a = absurd are.2
 one_of t limit found (l ∷ []) are a =
     subst (λ u. IsAnswer u limit found) are.0 (l.boxes, are.1, by_one l.tree l.boxes limit found a)
 
 pub one_is_all : (t : Tree) (limit : ℕ) (found : Outcome)
-    → IsAnswer t limit found ↔ IsAnswerOfAll (t ∷ []) limit (of_one found)
+    → IsAnswer t limit found ↔ IsAnswerOfAll (t ∷ []) limit found
 one_is_all t limit found = (of_one_is t limit found, λ a. one_of t limit found a.0 a.1 a.2)

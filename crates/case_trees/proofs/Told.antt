@@ -4,8 +4,9 @@ use Rattle.std.specs.Prelude.{slice_get, refl}
 use Rattle.std.proofs.Common.{sym, ◌∙◌, ap, subst, arith, inl, inr}
 use Rattle.bisect.specs.Trees.{Tree}
 use Rattle.bisect.specs.Boxes.{AreBoxes, IsBefore, IsOpenLeaf, HasNoOpenLeaf, first_open}
-use Rattle.case_trees.specs.declared.outcome.OpenLeaf.{OpenLeaf}
-use Rattle.case_trees.specs.Listed.{Listed, AreListed, open_at, or_later, first_open_from}
+use Rattle.bisect.specs.declared.outcome.OpenLeaf.{OpenLeaf}
+use Rattle.bisect.specs.Answers.{open_at}
+use Rattle.case_trees.specs.Listed.{Listed, AreListed, or_later, first_open_from}
 use Rattle.case_trees.specs.Laws.{IsFirstOfAll}
 
 -- what a tree's list of boxes tells

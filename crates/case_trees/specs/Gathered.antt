@@ -5,11 +5,9 @@ use Rattle.bisect.specs.declared.outcome.Outcome.{Outcome}
 use Rattle.bisect.specs.declared.outcome.Outcome.TheVariants as outcome
 use Rattle.bisect.specs.Trees.{Tree}
 use Rattle.bisect.specs.Boxes.{AreBoxes}
-use Rattle.case_trees.specs.declared.outcome.OpenLeaf.{OpenLeaf}
-use Rattle.case_trees.specs.declared.outcome.CaseOutcome.{CaseOutcome}
-use Rattle.case_trees.specs.declared.outcome.CaseOutcome.TheVariants as cases
+use Rattle.bisect.specs.declared.outcome.OpenLeaf.{OpenLeaf}
+use Rattle.bisect.specs.Answers.{open_at}
 use Rattle.case_trees.specs.Listed.{Listed, AreListed, box_count, first_open_from, all_leaves}
-use Rattle.case_trees.specs.Listed.{open_at}
 
 -- how many trees there were, how many boxes they have, how many all may have, their first open
 -- leaf, and the leaves as long as none was open
@@ -48,12 +46,12 @@ with_outcome w (outcome.Leaves count leaves) =
       first = w.first;
       leaves = leaves_with w.first w.leaves leaves;
     }
-with_outcome w (outcome.Unproved count path goal) =
+with_outcome w (outcome.Unproved count leaf) =
     record {
       cases = w.cases + 1;
       boxes = w.boxes + count;
       limit = w.limit;
-      first = or_open w.first (Some (open_at w.cases (path, goal)));
+      first = or_open w.first (Some (open_at w.cases (leaf.path, leaf.goal)));
       leaves = w.leaves;
     }
 with_outcome w outcome.BoxLimit = w
@@ -61,31 +59,31 @@ with_outcome w outcome.BoxLimit = w
 -- it has no more boxes than these, or says that there are more
 abbrev pub IsWithin : ℕ → Outcome → Type 0
 IsWithin left (outcome.Leaves count leaves) = count ≤ left
-IsWithin left (outcome.Unproved count path goal) = count ≤ left
+IsWithin left (outcome.Unproved count leaf) = count ≤ left
 IsWithin left outcome.BoxLimit = ⊤
 
 -- what all come to, where no more trees follow
-abbrev pub end_at : ℕ → Option OpenLeaf → List Leaf → CaseOutcome
-end_at count (Some leaf) leaves = cases.Unproved count leaf
-end_at count None leaves = cases.Leaves count leaves
+abbrev pub end_at : ℕ → Option OpenLeaf → List Leaf → Outcome
+end_at count (Some leaf) leaves = outcome.Unproved count leaf
+end_at count None leaves = outcome.Leaves count leaves
 
 -- what all trees come to where no further one follows
-abbrev pub end_of : Seen → CaseOutcome
+abbrev pub end_of : Seen → Outcome
 end_of w = end_at w.boxes w.first w.leaves
 
 -- ---- with the trees that follow
 -- by their boxes
-abbrev pub EndsBy : Seen → List Listed → CaseOutcome → Type 0
-EndsBy w later cases.BoxLimit = w.limit < w.boxes + box_count later
-EndsBy w later (cases.Unproved count leaf) = (w.boxes + box_count later ≤ w.limit)
+abbrev pub EndsBy : Seen → List Listed → Outcome → Type 0
+EndsBy w later outcome.BoxLimit = w.limit < w.boxes + box_count later
+EndsBy w later (outcome.Unproved count leaf) = (w.boxes + box_count later ≤ w.limit)
     × (or_open w.first (first_open_from w.cases later) ≡ Some leaf)
     × (count ≡ w.boxes + box_count later)
-EndsBy w later (cases.Leaves count leaves) = (w.boxes + box_count later ≤ w.limit)
+EndsBy w later (outcome.Leaves count leaves) = (w.boxes + box_count later ≤ w.limit)
     × (or_open w.first (first_open_from w.cases later) ≡ None) × (count ≡ w.boxes + box_count later)
     × (leaves ≡ w.leaves ++ all_leaves later)
 
 -- What was seen, and these trees behind it, come to this.
-abbrev pub EndsAs : Seen → List Tree → CaseOutcome → Type 0
+abbrev pub EndsAs : Seen → List Tree → Outcome → Type 0
 EndsAs w later found = (ls : List Listed) × AreListed later ls × EndsBy w ls found
 
 -- the tree has boxes in order

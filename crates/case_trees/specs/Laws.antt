@@ -15,23 +15,21 @@ use Rattle.bisect.specs.Trees.{Tree, IsLeaf}
 use Rattle.bisect.specs.Boxes.{IsBefore, IsOpenLeaf}
 use Rattle.bisect.specs.Answers.{IsAnswer}
 use Rattle.bisect.specs.Gathered.{line_of}
-use Rattle.case_trees.specs.declared.outcome.OpenLeaf.{OpenLeaf}
-use Rattle.case_trees.specs.declared.outcome.CaseOutcome.{CaseOutcome}
-use Rattle.case_trees.specs.declared.outcome.CaseOutcome.TheVariants as cases
+use Rattle.bisect.specs.declared.outcome.OpenLeaf.{OpenLeaf}
 use Rattle.case_trees.specs.Listed.{Listed, AreListed, first_open_from, all_leaves}
-use Rattle.case_trees.specs.Answers.{IsAnswerOfAll, of_one}
+use Rattle.case_trees.specs.Answers.{IsAnswerOfAll}
 use Rattle.case_trees.specs.Gathered.{Seen, HasBoxes, IsWithin, EndsAs, nothing_seen, boxes_left}
 use Rattle.case_trees.specs.Gathered.{with_outcome, end_of}
 
 -- Several trees have one answer under a limit.
 abbrev pub HaveOneAnswer : Type 0
-HaveOneAnswer = (trees : List Tree) (limit : ℕ) (found other : CaseOutcome)
+HaveOneAnswer = (trees : List Tree) (limit : ℕ) (found other : Outcome)
     → IsAnswerOfAll trees limit found → IsAnswerOfAll trees limit other → found ≡ other
 
 -- What one tree comes to is the answer of the list of it alone.
 abbrev pub OneIsAll : Type 0
 OneIsAll = (t : Tree) (limit : ℕ) (found : Outcome) → IsAnswer t limit found
-    ↔ IsAnswerOfAll (t ∷ []) limit (of_one found)
+    ↔ IsAnswerOfAll (t ∷ []) limit found
 
 -- ---- tree by tree
 -- What a tree comes to is within its limit.
@@ -40,12 +38,12 @@ AnswersAreWithin = (t : Tree) (limit : ℕ) (o : Outcome) → IsAnswer t limit o
 
 -- What is seen from nothing on is the answer.
 abbrev pub StartsFromNothing : Type 0
-StartsFromNothing = (trees : List Tree) (limit : ℕ) (found : CaseOutcome)
+StartsFromNothing = (trees : List Tree) (limit : ℕ) (found : Outcome)
     → EndsAs (nothing_seen limit) trees found → IsAnswerOfAll trees limit found
 
 -- A tree that comes to this within the boxes that are left joins what was seen.
 abbrev pub GoesOn : Type 0
-GoesOn = (w : Seen) (t : Tree) (later : List Tree) (o : Outcome) (found : CaseOutcome)
+GoesOn = (w : Seen) (t : Tree) (later : List Tree) (o : Outcome) (found : Outcome)
     → w.boxes ≤ w.limit → IsAnswer t (boxes_left w) o → o ≢ outcome.BoxLimit →
     EndsAs (with_outcome w o) later found → EndsAs w (t ∷ later) found
 
@@ -53,12 +51,12 @@ GoesOn = (w : Seen) (t : Tree) (later : List Tree) (o : Outcome) (found : CaseOu
 abbrev pub StopsOver : Type 0
 StopsOver = (w : Seen) (t : Tree) (later : List Tree)
     → w.boxes ≤ w.limit → IsAnswer t (boxes_left w) outcome.BoxLimit
-    → AllByRecursion HasBoxes later → EndsAs w (t ∷ later) cases.BoxLimit
+    → AllByRecursion HasBoxes later → EndsAs w (t ∷ later) outcome.BoxLimit
 
 -- So does any where none is left: each tree has a box.
 abbrev pub StopsAtNone : Type 0
 StopsAtNone = (w : Seen) (t : Tree) (later : List Tree) → w.limit ≤ w.boxes
-    → HasBoxes t → AllByRecursion HasBoxes later → EndsAs w (t ∷ later) cases.BoxLimit
+    → HasBoxes t → AllByRecursion HasBoxes later → EndsAs w (t ∷ later) outcome.BoxLimit
 
 -- And so does the end of the list.
 abbrev pub StopsAtEnd : Type 0

@@ -3,7 +3,8 @@ use Rattle.std.specs.Prelude.{◌≡◌, ◌+◌, ◌++◌, ⊤, ℕ, List, [], 
 use Rattle.bisect.specs.declared.outcome.Leaf.{Leaf}
 use Rattle.bisect.specs.Trees.{Tree}
 use Rattle.bisect.specs.Boxes.{AreBoxes, first_open, leaves_of}
-use Rattle.case_trees.specs.declared.outcome.OpenLeaf.{OpenLeaf}
+use Rattle.bisect.specs.Answers.{open_at}
+use Rattle.bisect.specs.declared.outcome.OpenLeaf.{OpenLeaf}
 
 -- a tree with a list of paths
 pub record Listed : Type 0 where
@@ -22,9 +23,6 @@ box_count [] = 0
 box_count (l ∷ ls) = length l.boxes + box_count ls
 
 -- ---- open leaves
-abbrev pub open_at : ℕ → List ℕ × ℕ → OpenLeaf
-open_at case leaf = record { case = case; path = leaf.0; goal = leaf.1 }
-
 -- the open leaf of the case with this number, or else a later one
 abbrev pub or_later : ℕ → Option (List ℕ × ℕ) → Option OpenLeaf → Option OpenLeaf
 or_later case (Some leaf) later = Some (open_at case leaf)

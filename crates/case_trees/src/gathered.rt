@@ -3,8 +3,7 @@ ghost use Rattle.std.specs.Prelude.{◌≡◌, ◌≢◌, ◌<◌, ◌≤◌, Is
 ghost use Rattle.case_trees.specs.Gathered.{IsWithin, boxes_left, end_of, nothing_seen};
 ghost use Rattle.case_trees.specs.Gathered.{with_outcome};
 
-use crate::outcome::{CaseOutcome, OpenLeaf};
-use bisect::{Leaf, Outcome};
+use bisect::{Leaf, OpenLeaf, Outcome};
 use fx_edge::Items;
 use std::alloc::{AllocError, Global};
 use std::marker::Model;
@@ -27,7 +26,7 @@ impl Model for Gathered {
     ghost use Rattle.std.specs.Prelude.{◌≤◌};
     ghost use Rattle.std.specs.Coded.{codes};
     ghost use Rattle.bisect.specs.contracts.outcome.Leaf as leaf_row;
-    ghost use Rattle.case_trees.specs.contracts.outcome.OpenLeaf as open_row;
+    ghost use Rattle.bisect.specs.contracts.outcome.OpenLeaf as open_row;
     ghost use Rattle.case_trees.specs.Gathered.{Seen};
 
     ghost Value = { Seen };
@@ -87,11 +86,11 @@ impl Gathered {
                 self.boxes += boxes;
                 Ok(true)
             }
-            Outcome::Unproved { boxes, path, goal } => {
+            Outcome::Unproved { boxes, leaf } => {
                 let leaf = OpenLeaf {
                     case: self.cases,
-                    path,
-                    goal,
+                    path: leaf.path,
+                    goal: leaf.goal,
                 };
                 if self.first.is_none() {
                     self.first = Some(leaf);
@@ -105,7 +104,7 @@ impl Gathered {
     }
 
     /// What all trees come to, where no other follows.
-    pub fn finish(self) -> CaseOutcome
+    pub fn finish(self) -> Outcome
         ensures { result ≡ end_of self }
     {
         let Gathered {
@@ -116,8 +115,8 @@ impl Gathered {
             leaves,
         } = self;
         match first {
-            Some(leaf) => CaseOutcome::Unproved { boxes, leaf },
-            None => CaseOutcome::Leaves {
+            Some(leaf) => Outcome::Unproved { boxes, leaf },
+            None => Outcome::Leaves {
                 boxes,
                 leaves: Items::from_vec(leaves),
             },

@@ -3,8 +3,6 @@
 
 mod gathered;
 mod laws;
-mod outcome;
 
 pub use gathered::Gathered;
 pub use laws::{cases_answer_once, cases_are_told, lines_cover_cases, trees_are_gathered};
-pub use outcome::{CaseOutcome, OpenLeaf};

@@ -8,8 +8,8 @@ use Rattle.script_grammar.specs.Cases.{cases_of}
 use Rattle.script_grammar.specs.Spells.{View, Spells, GoalsHaveSpans}
 use Rattle.bisect.specs.declared.outcome.Leaf.{Leaf}
 use Rattle.bisect.specs.Gathered.{line_of, lines_of}
-use Rattle.case_trees.specs.declared.outcome.CaseOutcome.TheVariants as outcome
-use Rattle.case_trees.specs.declared.outcome.OpenLeaf.{OpenLeaf}
+use Rattle.bisect.specs.declared.outcome.Outcome.TheVariants as outcome
+use Rattle.bisect.specs.declared.outcome.OpenLeaf.{OpenLeaf}
 use Rattle.settler.specs.declared.cases.Case.{Case}
 use Rattle.settler.specs.Answers.{Options, ComesTo, HasTooManyExpressions, IsProved, plan_of}
 use Rattle.settler.specs.Cases.{AreCases}

@@ -10,8 +10,8 @@ use Rattle.rewrite_hints.specs.Marks.{AreMarks}
 use Rattle.rewrite_hints.proofs.MarksLaws.{marks_are_one}
 use Rattle.bisect.specs.declared.outcome.Leaf.{Leaf}
 use Rattle.bisect.specs.Gathered.{lines_of}
-use Rattle.case_trees.specs.declared.outcome.OpenLeaf.{OpenLeaf}
-use Rattle.case_trees.specs.declared.outcome.CaseOutcome.TheVariants as outcome
+use Rattle.bisect.specs.declared.outcome.OpenLeaf.{OpenLeaf}
+use Rattle.bisect.specs.declared.outcome.Outcome.TheVariants as outcome
 use Rattle.settler.specs.Answers.{Options, Answer, expr_limit, box_limit, unproved, proved, ComesTo}
 use Rattle.settler.specs.Answers.{IsScriptAnswer, AnswersAreOne, OutcomesAreOne}
 use Rattle.settler.specs.Answers.{HasTooManyExpressions, HasTooManyBoxes, plan_of}

@@ -10,7 +10,7 @@ use Rattle.script_grammar.specs.Cases.{cases_of}
 use Rattle.script_meets.specs.Meets.{Meets}
 use Rattle.script_meets.specs.Held.{AreHeld}
 use Rattle.rewrite_hints.specs.Marks.{AreMarks}
-use Rattle.case_trees.specs.declared.outcome.OpenLeaf.{OpenLeaf}
+use Rattle.bisect.specs.declared.outcome.OpenLeaf.{OpenLeaf}
 use Rattle.settler.specs.Answers.{Options, HasTooManyExpressions, HasTooManyBoxes, IsUnproved}
 use Rattle.settler.specs.Answers.{IsProvedIn, plan_of}
 use Rattle.settler.specs.Tight.{AreTight}

@@ -10,8 +10,7 @@ ghost use Rattle.report.specs.Unproved as spec;
 ghost use Rattle.script_answers.specs.Answers.{AreAllowed, IsFound, ProvePrints, options_from};
 
 use crate::options::Options;
-use bisect::lines_of;
-use case_trees::{CaseOutcome, OpenLeaf};
+use bisect::{OpenLeaf, Outcome, lines_of};
 use command_runs::Status;
 use fx_edge::{Gate, Items};
 use goals::Line;
@@ -70,7 +69,7 @@ fn found_of(
     script: &Script<'_>,
     cases: &[Case],
     options: Options,
-    outcome: CaseOutcome,
+    outcome: Outcome,
 ) -> Result<Found, AllocError>
     requires cases { AreCases script.now options.depth (cases_of script.now) cases.now }
     requires comes { ComesTo script.now (options_from options) outcome }
@@ -82,14 +81,14 @@ fn found_of(
     proved_lines_are_tight();
     open_leaves_are_first();
     match outcome {
-        CaseOutcome::BoxLimit => {
+        Outcome::BoxLimit => {
             Ok(Found::Stopped(Status::Limit, boxes_text(alloc, options.boxes)?))
         }
-        CaseOutcome::Unproved { leaf, .. } => {
+        Outcome::Unproved { leaf, .. } => {
             let text = open_line(alloc, script, cases, leaf)?;
             Ok(Found::Stopped(Status::Unproved, text))
         }
-        CaseOutcome::Leaves { boxes, leaves } => {
+        Outcome::Leaves { boxes, leaves } => {
             let lines = lines_of(alloc, leaves.as_slice(), script.goals().len())?;
             Ok(Found::Proved(boxes, lines))
         }

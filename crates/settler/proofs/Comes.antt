@@ -21,7 +21,7 @@ use Rattle.universe.specs.Universes.{IsUniverse, IsTooLarge}
 use Rattle.universe.proofs.Universes.{assumed}
 use Rattle.box_tree.specs.Plans.{cut_at, pieces_at}
 use Rattle.bisect.specs.Trees.{tree_of}
-use Rattle.case_trees.specs.declared.outcome.CaseOutcome.{CaseOutcome}
+use Rattle.bisect.specs.declared.outcome.Outcome.{Outcome}
 use Rattle.case_trees.specs.Answers.{IsAnswerOfAll}
 use Rattle.script_truths.specs.Truths.{HasUniverse}
 use Rattle.settler.specs.declared.cases.Case.{Case}
@@ -61,7 +61,7 @@ module _ (s : View) (o : Options) (u : World) (before : List Claim)
     )
 
     pub comes_to : ¬ IsTooLarge s
-        → (cs : List Case) → AreCases s o.depth (cases_of s) cs → (found : CaseOutcome)
+        → (cs : List Case) → AreCases s o.depth (cases_of s) cs → (found : Outcome)
         → IsAnswerOfAll (trees_in u o.rounds cs) o.boxes found → ComesTo s o found
     comes_to few cs are found answer = record {
       few = few;

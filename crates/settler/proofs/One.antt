@@ -7,14 +7,14 @@ use Rattle.bisect.specs.declared.outcome.Outcome.{Outcome}
 use Rattle.bisect.specs.declared.outcome.Outcome.TheVariants as outcome
 use Rattle.bisect.specs.Answers.{IsAnswer}
 use Rattle.bisect.specs.Trees.{Tree}
-use Rattle.case_trees.specs.Answers.{IsAnswerOfAll, of_one}
+use Rattle.case_trees.specs.Answers.{IsAnswerOfAll}
 use Rattle.case_trees.specs.Laws.{OneIsAll}
 use Rattle.settler.specs.Answers.{Options, AreTrees}
 use Rattle.settler.specs.One.{CaseComesTo, OneCaseIsAll, ProvedInOneCase}
 
 by_trees : OneIsAll → (s : View) (claims : List Claim)
     (o : Options) (found : Outcome) (trees : List Tree) → AreTrees s o (claims ∷ []) trees
-    → IsAnswerOfAll trees o.boxes (of_one found) → CaseComesTo s claims o found
+    → IsAnswerOfAll trees o.boxes found → CaseComesTo s claims o found
 by_trees one s claims o found [] are a = absurd are
 by_trees one s claims o found (t ∷ u ∷ trees) are a = absurd are.1
 by_trees one s claims o found (t ∷ []) are a = record {

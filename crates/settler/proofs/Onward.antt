@@ -16,8 +16,6 @@ use Rattle.bisect.specs.declared.outcome.Outcome.{Outcome}
 use Rattle.bisect.specs.declared.outcome.Outcome.TheVariants as outcome
 use Rattle.bisect.specs.Trees.{tree_of}
 use Rattle.bisect.specs.Answers.{IsAnswer}
-use Rattle.case_trees.specs.declared.outcome.CaseOutcome.{CaseOutcome}
-use Rattle.case_trees.specs.declared.outcome.CaseOutcome.TheVariants as cases
 use Rattle.case_trees.specs.Gathered.{Seen, HasBoxes, EndsAs, IsWithin, boxes_left, with_outcome}
 use Rattle.case_trees.specs.Laws.{GoesOn, StopsOver, StopsAtNone}
 use Rattle.settler.specs.declared.cases.Case.{Case}
@@ -84,18 +82,18 @@ drop_all (x ∷ cs) (suc i) h = drop_all cs i (omega (arith, h))
 -- the limit stays, and there is one case more
 pub same_limit : (w : Seen) (o : Outcome) → (with_outcome w o).limit ≡ w.limit
 same_limit w (outcome.Leaves n ls) = refl
-same_limit w (outcome.Unproved n p g) = refl
+same_limit w (outcome.Unproved n x) = refl
 same_limit w outcome.BoxLimit = refl
 
 pub stays_within : (w : Seen) (o : Outcome) → w.boxes ≤ w.limit → IsWithin (boxes_left w) o
     → (with_outcome w o).boxes ≤ (with_outcome w o).limit
 stays_within w (outcome.Leaves n ls) room h = omega (arith, room, h)
-stays_within w (outcome.Unproved n p g) room h = omega (arith, room, h)
+stays_within w (outcome.Unproved n x) room h = omega (arith, room, h)
 stays_within w outcome.BoxLimit room h = room
 
 pub one_more_case : (w : Seen) (o : Outcome) → (with_outcome w o).cases ≤ w.cases + 1
 one_more_case w (outcome.Leaves n ls) = omega arith
-one_more_case w (outcome.Unproved n p g) = omega arith
+one_more_case w (outcome.Unproved n x) = omega arith
 one_more_case w outcome.BoxLimit = omega arith
 
 module _ (boxes : TreesHaveBoxes) (s : View) (u : World) (rounds : ℕ) where
@@ -116,7 +114,7 @@ module _ (boxes : TreesHaveBoxes) (s : View) (u : World) (rounds : ℕ) where
 
   -- no box is left for this case
   pub none_left : StopsAtNone → (w : Seen) (c : Case) (cs : List Case) → ArePlanned s (c ∷ cs)
-      → w.limit ≤ w.boxes → EndsAs w (trees_in u rounds (c ∷ cs)) cases.BoxLimit
+      → w.limit ≤ w.boxes → EndsAs w (trees_in u rounds (c ∷ cs)) outcome.BoxLimit
   none_left stops w c cs p none = let b = planned_boxes (c ∷ cs) p in
       stops w (tree_in u rounds c) (trees_in u rounds cs) none b.0 b.1
 
@@ -132,7 +130,7 @@ module _ (boxes : TreesHaveBoxes) (s : View) (u : World) (rounds : ℕ) where
       (cs : List Case) (left : ℕ) (o : Outcome) → ArePlanned s (c ∷ cs) → w.boxes ≤ w.limit
       → v ≡ assuming u (facts_of c.claims) → left ≡ boxes_left w
       → IsAnswer (tree_of (cut_at c.plan) (state_at v c.plan rounds)) left o → o ≡ outcome.BoxLimit
-      → EndsAs w (trees_in u rounds (c ∷ cs)) cases.BoxLimit
+      → EndsAs w (trees_in u rounds (c ∷ cs)) outcome.BoxLimit
   too_many stops w v c cs left o p room e l a limit =
       let here : IsAnswer (tree_in u rounds c) (boxes_left w) outcome.BoxLimit =
       subst (λ n. IsAnswer (tree_in u rounds c) n outcome.BoxLimit) l
@@ -144,7 +142,7 @@ module _ (boxes : TreesHaveBoxes) (s : View) (u : World) (rounds : ℕ) where
       → w.boxes ≤ w.limit → v ≡ assuming u (facts_of c.claims) → left ≡ boxes_left w
       → IsAnswer (tree_of (cut_at c.plan) (state_at v c.plan rounds)) left o
       → o ≢ outcome.BoxLimit → x ≡ with_outcome w o
-      → (found : CaseOutcome) → EndsAs x (trees_in u rounds cs) found
+      → (found : Outcome) → EndsAs x (trees_in u rounds cs) found
       → EndsAs w (trees_in u rounds (c ∷ cs)) found
   joins goes w x v c cs left o room e l a n more found ends =
       goes w (tree_in u rounds c) (trees_in u rounds cs) o found room

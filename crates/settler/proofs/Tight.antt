@@ -28,7 +28,7 @@ use Rattle.bisect.specs.Boxes.{AreBoxes, first_open, leaves_of, leaf_at, with_le
 use Rattle.bisect.specs.Boxes.{or_later}
 use Rattle.bisect.proofs.Boxes.{not_some, later_none}
 use Rattle.bisect.specs.Gathered.{with_known, with_state, line_with, line_of, lines_of}
-use Rattle.case_trees.specs.declared.outcome.OpenLeaf.{OpenLeaf}
+use Rattle.bisect.specs.declared.outcome.OpenLeaf.{OpenLeaf}
 use Rattle.case_trees.specs.Listed.{Listed, AreListed, first_open_from, all_leaves}
 use Rattle.case_trees.specs.Listed.{or_later as or_later_case}
 use Rattle.settler.specs.Standing.{IsBestKnown, AreSettledBy, StandsAs, AreStates}

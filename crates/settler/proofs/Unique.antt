@@ -14,9 +14,9 @@ use Rattle.bisect.specs.declared.settler.State.{State}
 use Rattle.bisect.specs.declared.outcome.Leaf.{Leaf}
 use Rattle.bisect.specs.Trees.{Tree}
 use Rattle.bisect.specs.Gathered.{lines_of}
-use Rattle.case_trees.specs.declared.outcome.OpenLeaf.{OpenLeaf}
-use Rattle.case_trees.specs.declared.outcome.CaseOutcome.{CaseOutcome}
-use Rattle.case_trees.specs.declared.outcome.CaseOutcome.TheVariants as outcome
+use Rattle.bisect.specs.declared.outcome.OpenLeaf.{OpenLeaf}
+use Rattle.bisect.specs.declared.outcome.Outcome.{Outcome}
+use Rattle.bisect.specs.declared.outcome.Outcome.TheVariants as outcome
 use Rattle.case_trees.specs.Answers.{IsAnswerOfAll}
 use Rattle.case_trees.specs.Laws.{HaveOneAnswer}
 use Rattle.settler.specs.Standing.{AreStates}
@@ -55,7 +55,7 @@ module _ (universes : UniversesAreOne) (one : BoxesComeToOneState) (answers : Ha
   same_trees (c ∷ cases) (x ∷ xs) (y ∷ ys) a b =
       ap₂ (λ t ts. t ∷ ts) (one_tree c x y a.0 b.0) (same_trees cases xs ys a.1 b.1)
 
-  pub one_outcome : (found other : CaseOutcome) → ComesTo s o found
+  pub one_outcome : (found other : Outcome) → ComesTo s o found
       → ComesTo s o other → found ≡ other
   one_outcome found other a b =
       answers b.trees o.boxes found other (subst (λ ts. IsAnswerOfAll ts o.boxes found)

@@ -14,9 +14,9 @@ use Rattle.bisect.specs.declared.settler.State.{State}
 use Rattle.bisect.specs.declared.outcome.Leaf.{Leaf}
 use Rattle.bisect.specs.Trees.{Tree, tree_of}
 use Rattle.bisect.specs.Gathered.{lines_of}
-use Rattle.case_trees.specs.declared.outcome.OpenLeaf.{OpenLeaf}
-use Rattle.case_trees.specs.declared.outcome.CaseOutcome.{CaseOutcome}
-use Rattle.case_trees.specs.declared.outcome.CaseOutcome.TheVariants as cases
+use Rattle.bisect.specs.declared.outcome.OpenLeaf.{OpenLeaf}
+use Rattle.bisect.specs.declared.outcome.Outcome.{Outcome}
+use Rattle.bisect.specs.declared.outcome.Outcome.TheVariants as outcome
 use Rattle.case_trees.specs.Answers.{IsAnswerOfAll}
 use Rattle.settler.specs.Standing.{AreStates}
 
@@ -57,7 +57,7 @@ AreTrees s o (claims ∷ later) (t ∷ trees) = IsTreeOf s o claims t × AreTree
 AreTrees s o _ _ = ⊥
 
 -- The script hasn't too many expressions, and the trees of its cases come to this together.
-pub record ComesTo (s : View) (o : Options) (found : CaseOutcome) : Type 0 where
+pub record ComesTo (s : View) (o : Options) (found : Outcome) : Type 0 where
   pub few : ¬ IsTooLarge s
   pub trees : List Tree
   pub are_trees : AreTrees s o (cases_of s) trees
@@ -69,17 +69,17 @@ HasTooManyExpressions s = IsTooLarge s
 
 -- the trees of all cases have together more boxes than are allowed
 abbrev pub HasTooManyBoxes : View → Options → Type 0
-HasTooManyBoxes s o = ComesTo s o cases.BoxLimit
+HasTooManyBoxes s o = ComesTo s o outcome.BoxLimit
 
 -- a leaf is open: the first of the first case that has one, with its least goal that isn't settled
 abbrev pub IsUnproved : View → Options → OpenLeaf → Type 0
-IsUnproved s o leaf = (count : ℕ) × ComesTo s o (cases.Unproved count leaf)
+IsUnproved s o leaf = (count : ℕ) × ComesTo s o (outcome.Unproved count leaf)
 
 -- no leaf is open of trees with so many boxes: the line of each goal is the hull of its best known
 -- facts over the leaves of all cases
 abbrev pub IsProvedIn : View → Options → ℕ → List Line → Type 0
 IsProvedIn s o count lines = (leaves : List Leaf)
-    × ComesTo s o (cases.Leaves count leaves) × (lines ≡ lines_of leaves (length s.goals))
+    × ComesTo s o (outcome.Leaves count leaves) × (lines ≡ lines_of leaves (length s.goals))
 
 -- the same, of any number of boxes
 abbrev pub IsProved : View → Options → List Line → Type 0
@@ -102,7 +102,7 @@ IsScriptAnswer s o (proved lines) = IsProved s o lines
 -- ---- it is one
 -- A script comes to one outcome at most, with its number of boxes and its leaves.
 abbrev pub OutcomesAreOne : Type 0
-OutcomesAreOne = (s : View) (o : Options) (found other : CaseOutcome)
+OutcomesAreOne = (s : View) (o : Options) (found other : Outcome)
     → ComesTo s o found → ComesTo s o other → found ≡ other
 
 -- It has one answer at most.

@@ -12,7 +12,6 @@ use Rattle.bisect.specs.declared.outcome.Leaf.{Leaf}
 use Rattle.bisect.specs.declared.outcome.Outcome.TheVariants as outcome
 use Rattle.bisect.specs.Answers.{IsAnswer}
 use Rattle.bisect.specs.Gathered.{lines_of}
-use Rattle.case_trees.specs.Answers.{of_one}
 use Rattle.settler.specs.Standing.{AreStates}
 use Rattle.settler.specs.Answers.{Options, plan_of, tree_by, ComesTo, IsProved}
 
@@ -29,7 +28,7 @@ pub record CaseComesTo (s : View)
 -- What a script of one case comes to is what the tree of that case comes to.
 abbrev pub OneCaseIsAll : Type 0
 OneCaseIsAll = (s : View) (claims : List Claim) (o : Options) (found : Outcome)
-    → cases_of s ≡ claims ∷ [] → ComesTo s o (of_one found) → CaseComesTo s claims o found
+    → cases_of s ≡ claims ∷ [] → ComesTo s o found → CaseComesTo s claims o found
 
 -- no leaf of it is open: the line of each goal is the hull of its best known facts over its leaves
 abbrev pub CaseIsProved : View → List Claim → Options → List Line → Type 0

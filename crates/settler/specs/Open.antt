@@ -5,7 +5,7 @@ use Rattle.script_grammar.specs.Spells.{View}
 use Rattle.script_grammar.specs.Cases.{cases_of}
 use Rattle.bisect.specs.Trees.{Tree}
 use Rattle.bisect.specs.Boxes.{IsBefore, IsOpenLeaf, HasNoOpenLeaf}
-use Rattle.case_trees.specs.declared.outcome.OpenLeaf.{OpenLeaf}
+use Rattle.bisect.specs.declared.outcome.OpenLeaf.{OpenLeaf}
 use Rattle.settler.specs.Answers.{Options, IsTreeOf, IsUnproved}
 
 -- It is open in the tree of its case, and each other that is open there lies after it; no leaf of

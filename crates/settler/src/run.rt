@@ -21,7 +21,7 @@ use crate::laws::{cases_hold, plans_fit, proved_answers_hold};
 use bisect::{Outcome, run_alone};
 use box_tree::Plan;
 use box_workers::run;
-use case_trees::{CaseOutcome, Gathered, trees_are_gathered};
+use case_trees::{Gathered, trees_are_gathered};
 use derivation::{best_tables_exist, boxes_come_to_one_state};
 use fx_edge::Gate;
 use goals::settling_facts;
@@ -142,7 +142,7 @@ fn answer_cases<A: Fn(&Universe, &Plan, u32) -> Result<Outcome, AllocError>>(
     cases: &[Case],
     rounds: u8,
     boxes: u32,
-) -> Result<CaseOutcome, AllocError>
+) -> Result<Outcome, AllocError>
     requires answers { IsAnswerer rounds (A.pre answer_tree.now) (A.post answer_tree.now) }
     requires universe { (before : List Claim) × IsUniverse script.now before universe.old }
     requires cases { (depth : ℕ)
@@ -157,14 +157,14 @@ fn answer_cases<A: Fn(&Universe, &Plan, u32) -> Result<Outcome, AllocError>>(
     for case in cases {
         let left = gathered.left();
         if left == 0 {
-            return Ok(CaseOutcome::BoxLimit);
+            return Ok(Outcome::BoxLimit);
         }
         assume(alloc, universe, script, case.claims.as_slice())?;
         plans_fit(universe);
         let plan = &case.plan;
         let outcome = answered(answer_tree, universe, plan, rounds, left)?;
         if !gathered.add(outcome)? {
-            return Ok(CaseOutcome::BoxLimit);
+            return Ok(Outcome::BoxLimit);
         }
     }
     Ok(gathered.finish())
@@ -180,7 +180,7 @@ fn answer_by<A: Fn(&Universe, &Plan, u32) -> Result<Outcome, AllocError>>(
     rounds: u8,
     depth: u8,
     boxes: u32,
-) -> Result<CaseOutcome, AllocError>
+) -> Result<Outcome, AllocError>
     requires answers { IsAnswerer rounds (A.pre answer_tree.now) (A.post answer_tree.now) }
     requires universe { (before : List Claim) × IsUniverse script.now before universe.old }
     requires small { ¬ IsTooLarge script.now }
@@ -220,7 +220,7 @@ pub fn answer<G: Gate, R: Threads + Wait + Sync>(
     depth: u8,
     workers: u8,
     boxes: u32,
-) -> Result<CaseOutcome, AllocError>
+) -> Result<Outcome, AllocError>
     requires universe { (before : List Claim) × IsUniverse script.now before universe.old }
     requires small { ¬ IsTooLarge script.now }
     requires cases { AreCases script.now depth (cases_of script.now) cases.now }
@@ -259,7 +259,7 @@ pub fn answer_alone(
     rounds: u8,
     depth: u8,
     boxes: u32,
-) -> Result<CaseOutcome, AllocError>
+) -> Result<Outcome, AllocError>
     requires universe { (before : List Claim) × IsUniverse script.now before universe.old }
     requires small { ¬ IsTooLarge script.now }
     requires cases { AreCases script.now depth (cases_of script.now) cases.now }

@@ -70,7 +70,7 @@ fn answer(
 fn told(found: &Outcome) -> (u32, usize, Option<Path>) {
     match found {
         Outcome::Leaves { boxes, leaves } => (*boxes, leaves.as_slice().len(), None),
-        Outcome::Unproved { boxes, path, .. } => (*boxes, 0, Some(*path)),
+        Outcome::Unproved { boxes, leaf } => (*boxes, 0, Some(leaf.path)),
         Outcome::BoxLimit => (0, 0, None),
     }
 }

@@ -62,10 +62,10 @@ fn summary(found: &Outcome, calls: u64) -> Found {
             first: None,
             calls,
         },
-        Outcome::Unproved { boxes, path, .. } => Found {
+        Outcome::Unproved { boxes, leaf } => Found {
             boxes: *boxes,
             leaves: 0,
-            first: Some(*path),
+            first: Some(leaf.path),
             calls,
         },
         Outcome::BoxLimit => Found {

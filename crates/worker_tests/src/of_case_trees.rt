@@ -3,8 +3,8 @@
 ghost use Rattle.std.specs.Prelude.{◌≤◌, IfOk, length};
 ghost use Rattle.case_trees.specs.Gathered.{IsWithin};
 
-use bisect::{Leaf, Outcome, State};
-use case_trees::{CaseOutcome, Gathered};
+use bisect::{Leaf, OpenLeaf, Outcome, State};
+use case_trees::Gathered;
 use fx_edge::{Items, Path};
 use std::alloc::{AllocError, Global};
 use std::process::Abort;
@@ -30,7 +30,12 @@ fn tree(alloc: Global, boxes: Boxes, left: u32) -> Result<Outcome, AllocError>
     }
     let path = Path::root();
     if let Some(goal) = open {
-        return Ok(Outcome::Unproved { boxes, path, goal });
+        let leaf = OpenLeaf {
+            case: 0,
+            path,
+            goal,
+        };
+        return Ok(Outcome::Unproved { boxes, leaf });
     }
     let mut leaves = Vec::new(alloc);
     leaves.push(Leaf {
@@ -43,11 +48,11 @@ fn tree(alloc: Global, boxes: Boxes, left: u32) -> Result<Outcome, AllocError>
     })
 }
 
-fn told(outcome: CaseOutcome) -> Wanted {
+fn told(outcome: Outcome) -> Wanted {
     match outcome {
-        CaseOutcome::Leaves { boxes, leaves } => Wanted::Proved(boxes, leaves.as_slice().len()),
-        CaseOutcome::Unproved { boxes, leaf } => Wanted::Open(boxes, leaf.case, leaf.goal),
-        CaseOutcome::BoxLimit => Wanted::Limit,
+        Outcome::Leaves { boxes, leaves } => Wanted::Proved(boxes, leaves.as_slice().len()),
+        Outcome::Unproved { boxes, leaf } => Wanted::Open(boxes, leaf.case, leaf.goal),
+        Outcome::BoxLimit => Wanted::Limit,
     }
 }
 

@@ -1,4 +1,4 @@
-use Rattle.std.proofs.Common.{arith, ◌≡◌, ◌-◌, [], List, ℕ, None, length, sym, ap, ◌∙◌}
+use Rattle.std.proofs.Common.{arith, ◌≡◌, ◌-◌, [], List, ℕ, None, length, refl, sym, ap, ◌∙◌}
 use Rattle.box_tree.specs.Plans.{cut_at}
 use Rattle.bisect.specs.declared.outcome.Leaf.{Leaf}
 use Rattle.bisect.specs.Trees.{Tree, tree_of}
@@ -39,7 +39,7 @@ returns-in-Some g c =
     let m = c.visit.ensures.within.room in (
       boxes_from t 36 [],
       are_boxes t (shallow t (cut_at c.args.plan.now) c.requires.plan c.laws.ensures),
-      (omega (arith, n, l, m), sym r.1 ∙ c.in-Some.is, n),
+      (omega (arith, n, l, m), sym r.1 ∙ c.in-Some.is, n, refl),
     )
 
 pub returns-in-None : goal.returns-in-None

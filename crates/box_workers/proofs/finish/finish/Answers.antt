@@ -1,4 +1,4 @@
-use Rattle.std.proofs.Common.{[], arith, ap, sym, ◌∙◌}
+use Rattle.std.proofs.Common.{[], arith, ap, refl, sym, ◌∙◌}
 use Rattle.bisect.specs.Trees.{Tree, tree_of}
 use Rattle.bisect.specs.Walks.{boxes_from}
 use Rattle.box_workers.specs.Answers.{first_open_in}
@@ -63,6 +63,7 @@ returns-in-Some g c =
         sym open' ∙ ap first_open_in (sym c.as_slice.ensures.value)
             ∙ sym c.first_open.ensures ∙ c.in-Some.is,
         count,
+        refl,
       ),
     )
 

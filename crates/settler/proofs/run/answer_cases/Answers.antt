@@ -8,7 +8,7 @@ use Rattle.universe.specs.Cases.{AreHypotheses}
 use Rattle.universe.specs.Universes.{IsUniverse}
 use Rattle.box_tree.specs.Plans.{cut_at}
 use Rattle.bisect.specs.Trees.{tree_of}
-use Rattle.case_trees.specs.declared.outcome.CaseOutcome.TheVariants as cases
+use Rattle.bisect.specs.declared.outcome.Outcome.TheVariants as outcome
 use Rattle.case_trees.specs.Gathered.{Seen, EndsAs, IsWithin}
 use Rattle.settler.specs.Cases.{trees_in}
 use Rattle.settler.specs.Decided.{state_at}
@@ -49,9 +49,9 @@ returns-then-left-eq0 g c =
     let left = c.left-left.ensures.left in
     let none = c.if-left-eq0.true in
     record {
-      comes = c.trees_are_gathered.ensures.starts (trees_in u r cs) c.args.boxes cases.BoxLimit
-          (c.loop-case.invariant.ends cases.BoxLimit
-          (subst (λ xs. EndsAs w (trees_in u r xs) cases.BoxLimit) (sym split)
+      comes = c.trees_are_gathered.ensures.starts (trees_in u r cs) c.args.boxes outcome.BoxLimit
+          (c.loop-case.invariant.ends outcome.BoxLimit
+          (subst (λ xs. EndsAs w (trees_in u r xs) outcome.BoxLimit) (sym split)
           (none_left c.trees_are_gathered.ensures.boxes s u r c.trees_are_gathered.ensures.none
           w case (drop (i + 1) cs) planned (omega (arith, left, none)))));
       universe = c.loop-case.invariant.universe;
@@ -135,9 +135,9 @@ returns-then-not-branch g c =
     c.in_ok-assume.ensures.assumed ∙ ap (λ claims. assuming c.loop-case.universe
     (facts_of claims)) c.as_slice.ensures ∙ inv.same (facts_of case.claims) in
     record {
-      comes = c.trees_are_gathered.ensures.starts (trees_in u r cs) c.args.boxes cases.BoxLimit
-          (inv.ends cases.BoxLimit
-          (subst (λ xs. EndsAs w (trees_in u r xs) cases.BoxLimit) (sym split)
+      comes = c.trees_are_gathered.ensures.starts (trees_in u r cs) c.args.boxes outcome.BoxLimit
+          (inv.ends outcome.BoxLimit
+          (subst (λ xs. EndsAs w (trees_in u r xs) outcome.BoxLimit) (sym split)
           (too_many c.trees_are_gathered.ensures.boxes s u r c.trees_are_gathered.ensures.over
           w c.assume.new.universe case (drop (i + 1) cs) c.left-left.result c.in_ok-outcome.outcome
           planned c.left-left.ensures.within universe c.left-left.ensures.left

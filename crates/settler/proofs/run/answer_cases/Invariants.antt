@@ -3,7 +3,7 @@ use Rattle.facts.specs.declared.fact.Fact.{Fact}
 use Rattle.script_claims.specs.declared.claim.Claim.{Claim}
 use Rattle.rule_universe.specs.Assumed.{assuming}
 use Rattle.universe.specs.Universes.{IsUniverse}
-use Rattle.case_trees.specs.declared.outcome.CaseOutcome.{CaseOutcome}
+use Rattle.bisect.specs.declared.outcome.Outcome.{Outcome}
 use Rattle.case_trees.specs.Gathered.{EndsAs, nothing_seen}
 use Rattle.settler.specs.Cases.{trees_in}
 use Rattle.settler.proofs.run.answer_cases.Given as goal
@@ -12,7 +12,7 @@ abbrev pub invariant-loop-case : goal.invariant-loop-case
 invariant-loop-case g l = record {
   -- what the cases that are left come to behind what was seen, all come to
   ends :
-      (found : CaseOutcome)
+      (found : Outcome)
       → EndsAs l.gathered (trees_in l.fn.universe l.rounds (drop l.case-index l.cases)) found
       → EndsAs (nothing_seen l.boxes) (trees_in l.fn.universe l.rounds l.cases) found;
   limit : l.gathered.limit ≡ l.boxes;
