@@ -42,8 +42,8 @@ SUBJECTS = (
     ("Scripts", "script_words script_shape script_cases goal_spans script_bounds script_judge "
      "script_nodes script_claims script_hints node_counts script_grammar script_meets"),
     ("Boxes and answers", "rule_instances derivation rule_universe saturate rewrite_hints universe "
-     "box_tree bisect case_trees accounts box_deques fact_board box_workers job_workers "
-     "script_truths settler"),
+     "proof_options box_tree bisect case_trees accounts box_deques fact_board box_workers "
+     "job_workers script_truths settler"),
     ("Certificates", "cert_bytes cert_checker script_checker cert_trim tree_certificates box_trace "
      "answer_certificates cert_upgrade cert_rewriting"),
     ("Programs", "fixprog program_truths"),

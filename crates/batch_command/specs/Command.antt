@@ -1,6 +1,6 @@
 -- What `batch` does.
 use Rattle.std.specs.Prelude.{◌≡◌, ◌⊎◌, ◌++◌, List, [], ◌∷◌, Some, None}
-use Rattle.settler.specs.Answers.{Options}
+use Rattle.settler.specs.Answers.{Options, options_from}
 use Rattle.command_line.specs.Batch.{AskedBatch}
 use Rattle.name_list.specs.declared.fault.ListFault.{ListFault}
 use Rattle.name_list.specs.Lists.{IsFaultOf, lines_of}
@@ -14,7 +14,7 @@ use Rattle.batch_command.specs.Lines.{script_line, list_fault_line}
 
 -- How the words ask for each script to be proved. The number of workers changes no answer.
 abbrev pub options_of : AskedBatch → Options
-options_of a = record { rounds = a.rounds; depth = a.depth; boxes = a.boxes }
+options_of a = options_from a.options
 
 -- the first status of the two that isn't that of an answer
 abbrev pub first_other : Status → Status → Status

@@ -1,12 +1,14 @@
 // Scripts by number, over one set of workers.
 ghost use Rattle.std.specs.Prelude.{◌≤◌, IfOk, length};
-ghost use Rattle.script_answers.specs.Answers.{AreAllowed, options_from};
+ghost use Rattle.settler.specs.Answers.{options_from};
+ghost use Rattle.proof_options.specs.Ranges.{AreAllowed};
 ghost use Rattle.batch_command.specs.Told.{AreAnswers};
 
 use command_runs::Status;
 use fx_edge::Gate;
 use job_workers::{Job, run_jobs};
-use script_answers::{Options, answer_alone};
+use proof_options::Options;
+use script_answers::answer_alone;
 use std::alloc::{AllocError, Global};
 use std::sync::Wait;
 use std::thread::Threads;
@@ -22,7 +24,8 @@ struct Scripts<'a> {
 
 impl<'a> Job for Scripts<'a> {
     ghost use Rattle.std.specs.Prelude.{IfSome, slice_get};
-    ghost use Rattle.script_answers.specs.Answers.{ProvePrints, options_from};
+    ghost use Rattle.settler.specs.Answers.{options_from};
+    ghost use Rattle.script_answers.specs.Answers.{ProvePrints};
 
     type Out = (Status, Vec<u8>);
 

@@ -4,8 +4,9 @@ ghost use Rattle.fx_edge.specs.OnlyReads.{OnlyReads};
 ghost use Rattle.fx_edge.specs.Outside.{Rose};
 ghost use Rattle.command_line.specs.Batch.{AreInBatchRange, batch_of};
 ghost use Rattle.command_runs.specs.Runs.{run, seen};
-ghost use Rattle.script_answers.specs.Answers.{AreAllowed, options_from};
-ghost use Rattle.batch_command.specs.Command.{IsBatchRun, options_of};
+ghost use Rattle.settler.specs.Answers.{options_from};
+ghost use Rattle.proof_options.specs.Ranges.{AreAllowed};
+ghost use Rattle.batch_command.specs.Command.{IsBatchRun};
 ghost use Rattle.batch_command.specs.Told.{Prints, ScriptsPrint};
 
 use crate::job::answer_texts;
@@ -15,7 +16,8 @@ use command_line::BatchRequest;
 use command_runs::{Status, print, read_fault_line};
 use fx_edge::{Folder, Gate, Sink};
 use name_list::{ListStop, fronts_decide, list_faults_are_one, read_list};
-use script_answers::{Options, text_answers_are_one};
+use proof_options::Options;
+use script_answers::text_answers_are_one;
 use std::alloc::{AllocError, Global};
 use std::sync::Wait;
 use std::thread::Threads;
@@ -23,20 +25,6 @@ use whole_texts::{ReadStop, read_text};
 
 /// How much of a list is read, in bytes: these decide.
 const MOST: usize = 65_540;
-
-// How each script is to be proved.
-fn options_of(request: BatchRequest<'_>) -> Options
-    requires { AreInBatchRange request }
-    ensures is { options_from result ≡ options_of (batch_of request.entry) }
-    ensures allowed { AreAllowed result }
-{
-    Options {
-        rounds: request.rounds,
-        depth: request.depth,
-        boxes: request.boxes,
-        workers: request.workers,
-    }
-}
 
 // The status and all lines of the scripts of these names (1 to 64), each of which is read before
 // any is proved. `Err` only where memory runs out.
@@ -88,7 +76,7 @@ fn batch<F: Folder, G: Gate, R: Threads + Wait + Sync>(
         Err(ReadStop::OutOfMemory) => return Err(AllocError),
     };
     match read_list(alloc, &text) {
-        Ok(names) => prove_scripts(rt, alloc, &names, options_of(request), folder, gate),
+        Ok(names) => prove_scripts(rt, alloc, &names, request.options, folder, gate),
         Err(ListStop::Fault(fault)) => Ok((Status::List, list_fault_line(alloc, fault)?)),
         Err(ListStop::OutOfMemory) => Err(AllocError),
     }

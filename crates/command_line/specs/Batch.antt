@@ -1,22 +1,20 @@
 -- What the words after `batch` ask for.
 use Rattle.std.specs.Prelude.{ℕ, List, Option, Some, None, codes, if◌then◌else◌}
 use Rattle.clap.specs.Words.{App, Text, with_rule}
+use Rattle.proof_options.specs.declared.options.Options.{Options}
+use Rattle.proof_options.specs.Ranges.{AreWithin}
 use Rattle.command_line.specs.Simple.{name_rule, bare_app, are_names, Texts, read_by, ◌>>=◌}
-use Rattle.command_line.specs.Options.{with_options, options_from, AreWithin}
+use Rattle.command_line.specs.Options.{with_options, options_from}
 use Rattle.command_line.specs.declared.batch.BatchRequest.{BatchRequest}
 
 -- the command, as clap sees it
 abbrev pub batch_app : App
 batch_app = with_options (with_rule (bare_app (codes "batch")) (name_rule (codes "list")))
 
--- what `batch` is asked for: a list's name, and for each script the height of derivations, how
--- often boxes are halved, how many there may be, and workers
+-- what `batch` is asked for: a list's name, and how each script is to be proved
 pub record AskedBatch : Type 0 where
   pub list : Text
-  pub rounds : ℕ
-  pub depth : ℕ
-  pub boxes : ℕ
-  pub workers : ℕ
+  pub options : Options
 
 -- nothing, where no list is given, its name is empty, or a number isn't plain decimal in its range
 abbrev pub batch_from : Texts → Option AskedBatch
@@ -26,10 +24,7 @@ batch_from given = do
   if are_names list None
       then Some (record {
         list = list;
-        rounds = o.rounds;
-        depth = o.depth;
-        boxes = o.boxes;
-        workers = o.workers;
+        options = o;
       })
       else None
 
@@ -41,12 +36,9 @@ asked_batch words = read_by batch_app batch_from words
 abbrev pub batch_of : BatchRequest → AskedBatch
 batch_of r = record {
   list = r.list.now;
-  rounds = r.rounds;
-  depth = r.depth;
-  boxes = r.boxes;
-  workers = r.workers;
+  options = r.options;
 }
 
 -- the numbers are in their ranges
 abbrev pub AreInBatchRange : BatchRequest → Type 0
-AreInBatchRange r = AreWithin 512 r.rounds r.depth r.boxes r.workers
+AreInBatchRange r = AreWithin 512 r.options

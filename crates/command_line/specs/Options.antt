@@ -1,9 +1,9 @@
 -- The options that `prove` and `batch` share: numbers, of which each has its default.
-use Rattle.std.specs.Prelude.{◌≤◌, ℕ, Option, Some, codes}
+use Rattle.std.specs.Prelude.{ℕ, Option, Some, codes}
 use Rattle.clap.specs.Words.{App, with_rule}
+use Rattle.proof_options.specs.declared.options.Options.{Options}
 use Rattle.command_line.specs.Numbers.{number_or}
 use Rattle.command_line.specs.Simple.{option_rule, Texts, ◌>>=◌}
-use Rattle.command_line.specs.declared.options.Options.{Options}
 
 -- a command with these options too
 abbrev pub with_options : App → App
@@ -21,13 +21,3 @@ options_from default most given = do
   boxes ← number_or default 1 most (given (codes "boxes"))
   workers ← number_or 4 1 16 (given (codes "workers"))
   Some (record { rounds = rounds; depth = depth; boxes = boxes; workers = workers })
-
--- numbers are in the ranges of these options, by the most of the boxes
-pub record AreWithin (most rounds depth boxes workers : ℕ) : Type 0 where
-  pub rounds_low : 1 ≤ rounds
-  pub rounds_high : rounds ≤ 64
-  pub depth_high : depth ≤ 32
-  pub boxes_low : 1 ≤ boxes
-  pub boxes_high : boxes ≤ most
-  pub workers_low : 1 ≤ workers
-  pub workers_high : workers ≤ 16

@@ -2,9 +2,11 @@
 use Rattle.std.specs.Prelude.{ℕ, List, Option, Some, None, codes, if◌then◌else◌}
 use Rattle.std.specs.Option.{option_map}
 use Rattle.clap.specs.Words.{App, Text, with_rule}
+use Rattle.proof_options.specs.declared.options.Options.{Options}
+use Rattle.proof_options.specs.Ranges.{AreWithin}
 use Rattle.command_line.specs.Simple.{option_rule, name_rule, bare_app, are_names, Texts, read_by}
 use Rattle.command_line.specs.Simple.{◌>>=◌}
-use Rattle.command_line.specs.Options.{with_options, options_from, AreWithin}
+use Rattle.command_line.specs.Options.{with_options, options_from}
 use Rattle.command_line.specs.declared.prove.Request.{Request}
 
 -- ---- the command, as clap sees it
@@ -18,15 +20,12 @@ prove_app = with_options
 
 -- ---- the reading
 
--- what `prove` is asked for: a script's name, that of a certificate, if one is to be written, the
--- height of derivations, how often boxes are halved, how many there may be, and workers
+-- what `prove` is asked for: a script's name, that of a certificate, if one is to be written, and
+-- how it is to be proved
 pub record Asked : Type 0 where
   pub script : Text
   pub cert : Option Text
-  pub rounds : ℕ
-  pub depth : ℕ
-  pub boxes : ℕ
-  pub workers : ℕ
+  pub options : Options
 
 -- Nothing, where no script is given, a name is empty, the two names are equal, or a number isn't
 -- plain decimal in its range. An option that isn't given has its default; with no `cert` no
@@ -39,10 +38,7 @@ asked_from given = do
       then Some (record {
         script = script;
         cert = given (codes "cert");
-        rounds = o.rounds;
-        depth = o.depth;
-        boxes = o.boxes;
-        workers = o.workers;
+        options = o;
       })
       else None
 
@@ -57,12 +53,9 @@ abbrev pub asked_of : Request → Asked
 asked_of r = record {
   script = r.script.now;
   cert = option_map (λ c. c.now) r.cert;
-  rounds = r.rounds;
-  depth = r.depth;
-  boxes = r.boxes;
-  workers = r.workers;
+  options = r.options;
 }
 
 -- the numbers are in their ranges
 abbrev pub AreInRange : Request → Type 0
-AreInRange r = AreWithin 8192 r.rounds r.depth r.boxes r.workers
+AreInRange r = AreWithin 8192 r.options

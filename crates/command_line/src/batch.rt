@@ -8,6 +8,7 @@ ghost use Rattle.command_line.specs.Batch.{AreInBatchRange};
 use crate::options::{options_in, with_options};
 use crate::simple::{WordsError, are_names, bare, matches_by, name};
 use clap::{ArgMatches, Command};
+use proof_options::Options;
 use std::alloc::{AllocError, Global};
 
 /// What `batch` is asked for.
@@ -15,14 +16,8 @@ use std::alloc::{AllocError, Global};
 pub struct BatchRequest<'a> {
     /// The name of a list of scripts; it isn't empty.
     pub list: &'a str,
-    /// The height of derivations: 1 to 64.
-    pub rounds: u8,
-    /// How often boxes are halved at most: 0 to 32.
-    pub depth: u8,
-    /// How many boxes there may be for each script: 1 to 512.
-    pub boxes: u32,
-    /// How many workers there are: 1 to 16.
-    pub workers: u8,
+    /// How each script is to be proved, over 512 boxes at most.
+    pub options: Options,
 }
 
 fn batch_command<'a>(alloc: Global) -> Result<Command<'a>, AllocError>
@@ -42,13 +37,7 @@ fn request_in<'a>(matches: &ArgMatches<'a>) -> Option<BatchRequest<'a>>
     if !are_names(list, None) {
         return None;
     }
-    Some(BatchRequest {
-        list,
-        rounds: options.rounds,
-        depth: options.depth,
-        boxes: options.boxes,
-        workers: options.workers,
-    })
+    Some(BatchRequest { list, options })
 }
 
 /// Reads the words after `batch`, by what clap states of a simple command: one name, which isn't

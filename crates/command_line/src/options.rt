@@ -2,25 +2,14 @@
 ghost use Rattle.std.specs.Prelude.{◌≡◌, ◌≤◌, IfOk, IfSome};
 ghost use Rattle.clap.specs.Words.{app_of, found_of, first_value};
 ghost use Rattle.command_line.specs.Numbers.{number_or};
-ghost use Rattle.command_line.specs.Options.{with_options, options_from, AreWithin};
+ghost use Rattle.proof_options.specs.Ranges.{AreWithin};
+ghost use Rattle.command_line.specs.Options.{with_options, options_from};
 
 use crate::numbers::number;
 use crate::simple::option;
 use clap::{ArgMatches, Command};
+use proof_options::Options;
 use std::alloc::{AllocError, Global};
-
-/// The numbers that these options give, or their defaults.
-#[derive(Clone, Copy)]
-pub struct Options {
-    /// The height of derivations: 1 to 64.
-    pub rounds: u8,
-    /// How often boxes are halved at most: 0 to 32.
-    pub depth: u8,
-    /// How many boxes there may be, from 1 on.
-    pub boxes: u32,
-    /// How many workers settle boxes: 1 to 16.
-    pub workers: u8,
-}
 
 /// The command with these options too.
 pub fn with_options<'a>(alloc: Global, command: Command<'a>) -> Result<Command<'a>, AllocError>
@@ -59,7 +48,7 @@ pub fn options_in(matches: &ArgMatches<'_>, default: u32, most: u32) -> Option<O
     requires high { default ≤ most }
     requires digits { most ≤ 9999 }
     ensures is { result ≡ options_from default most (first_value (found_of matches.now)) }
-    ensures range { IfSome result (λ o. AreWithin most o.rounds o.depth o.boxes o.workers) }
+    ensures range { IfSome result (AreWithin most) }
 {
     let rounds = option_number(matches, "rounds", 20, 1, 64)?;
     let depth = option_number(matches, "depth", 16, 0, 32)?;

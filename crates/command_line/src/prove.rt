@@ -7,6 +7,7 @@ ghost use Rattle.command_line.specs.Reading.{prove_app, asked, asked_of, asked_f
 use crate::options::{options_in, with_options};
 use crate::simple::{WordsError, are_names, bare, matches_by, name, option};
 use clap::{ArgMatches, Command};
+use proof_options::Options;
 use std::alloc::{AllocError, Global};
 
 /// What `prove` is asked for.
@@ -16,14 +17,8 @@ pub struct Request<'a> {
     pub script: &'a str,
     /// The certificate's name, if one is to be written; it is neither empty nor the script's.
     pub cert: Option<&'a str>,
-    /// The height of derivations: 1 to 64.
-    pub rounds: u8,
-    /// How often boxes are halved at most: 0 to 32.
-    pub depth: u8,
-    /// How many boxes there may be: 1 to 8192.
-    pub boxes: u32,
-    /// How many workers settle boxes: 1 to 16.
-    pub workers: u8,
+    /// How it is to be proved.
+    pub options: Options,
 }
 
 fn prove_command<'a>(alloc: Global) -> Result<Command<'a>, AllocError>
@@ -49,10 +44,7 @@ fn request_from<'a>(matches: &ArgMatches<'a>) -> Option<Request<'a>>
     Some(Request {
         script,
         cert,
-        rounds: options.rounds,
-        depth: options.depth,
-        boxes: options.boxes,
-        workers: options.workers,
+        options,
     })
 }
 

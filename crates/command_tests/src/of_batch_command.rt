@@ -5,6 +5,7 @@ use batch_command::run_batch;
 use command_line::BatchRequest;
 use command_runs::Status;
 use fx_edge::{Gate, MemFolder, MemSink, OpenGate, Path};
+use proof_options::Options;
 use std::alloc::Global;
 use std::process::Abort;
 use std::sync::Wait;
@@ -30,10 +31,12 @@ fn list_run<R: Threads + Wait + Sync, G: Gate>(
 {
     let request = BatchRequest {
         list: "list",
-        rounds: 8,
-        depth: 12,
-        boxes: 256,
-        workers,
+        options: Options {
+            rounds: 8,
+            depth: 12,
+            boxes: 256,
+            workers,
+        },
     };
     run_batch(rt, alloc, request, folder, out, gate)
 }

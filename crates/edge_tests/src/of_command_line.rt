@@ -245,7 +245,11 @@ fn prove_is(
 ) -> Result<(), Fail> {
     let words = words_of(rt.alloc(), line)?;
     let found = read_prove(rt.alloc(), &words).map(|r| (
-        r.script, r.rounds, r.depth, r.boxes, r.workers,
+        r.script,
+        r.options.rounds,
+        r.options.depth,
+        r.options.boxes,
+        r.options.workers,
     ));
     is_wanted(rt, line, found, wanted);
     Ok(())
@@ -342,7 +346,11 @@ fn batch_is(
 ) -> Result<(), Fail> {
     let words = words_of(rt.alloc(), line)?;
     let found = read_batch(rt.alloc(), &words).map(|r| (
-        r.list, r.rounds, r.depth, r.boxes, r.workers,
+        r.list,
+        r.options.rounds,
+        r.options.depth,
+        r.options.boxes,
+        r.options.workers,
     ));
     is_wanted(rt, line, found, wanted);
     Ok(())

@@ -1,5 +1,5 @@
 -- How the made script is proved.
-use Rattle.made_script.specs.declared.options.Options.{Options}
+use Rattle.proof_options.specs.declared.options.Options.{Options}
 
 -- The options with which the made script is proved, whatever its degree: no box is halved.
 abbrev pub stated_options : Options

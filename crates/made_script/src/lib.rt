@@ -5,5 +5,5 @@
 mod options;
 mod script;
 
-pub use options::{Options, made_options};
+pub use options::made_options;
 pub use script::{made_script, polynomials_are_nested};

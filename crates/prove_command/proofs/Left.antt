@@ -8,8 +8,10 @@ use Rattle.command_runs.specs.Runs.{Bytes, Told}
 use Rattle.command_runs.specs.Fates.{Left, Leaves, Makes, begun}
 use Rattle.command_runs.specs.Fates.Left.{Kept, Whole}
 use Rattle.command_runs.specs.declared.status.Status.TheVariants as status
-use Rattle.script_answers.specs.Answers.{AreAllowed, IsAnswered, ProvePrints, options_from}
-use Rattle.script_answers.specs.declared.options.Options.{Options as Asking}
+use Rattle.settler.specs.Answers.{options_from}
+use Rattle.proof_options.specs.Ranges.{AreAllowed}
+use Rattle.script_answers.specs.Answers.{IsAnswered, ProvePrints}
+use Rattle.proof_options.specs.declared.options.Options.{Options as Asking}
 use Rattle.cert_writer.specs.Written.{OfProved, HoldsCertificate, HoldsFront}
 use Rattle.cert_writer.specs.declared.walk.WriteStop.{WriteStop}
 use Rattle.prove_command.specs.Certified.{HasWriteCause, IsAnsweredWith, IsCertified, IsSpared}

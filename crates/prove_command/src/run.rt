@@ -9,7 +9,7 @@ use cert_writer::WriteStop;
 use command_line::Request;
 use command_runs::{Status, print, print_stop};
 use fx_edge::{Folder, Gate, Sink};
-use script_answers::{options_of, text_answers_are_one};
+use script_answers::text_answers_are_one;
 use script_texts::read_script;
 use std::alloc::Global;
 use std::sync::Wait;
@@ -54,7 +54,7 @@ pub fn run_prove<F: Folder, O: Sink, G: Gate, R: Threads + Wait + Sync>(
     text_answers_are_one();
     match read_script(alloc, folder, request.script) {
         Ok(text) => {
-            let options = options_of(request);
+            let options = request.options;
             match certify_text(rt, alloc, &text, options, folder, request.cert, gate) {
                 Ok(certified) => put_certified(out, &certified),
                 Err(_) => Status::OutOfMemory,

@@ -12,7 +12,7 @@ use Rattle.script_meets.specs.Held.{AreHeld}
 use Rattle.rewrite_hints.specs.Marks.{AreMarks}
 use Rattle.bisect.specs.declared.outcome.OpenLeaf.{OpenLeaf}
 use Rattle.settler.specs.Answers.{Options, HasTooManyExpressions, HasTooManyBoxes, IsUnproved}
-use Rattle.settler.specs.Answers.{IsProvedIn, plan_of}
+use Rattle.settler.specs.Answers.{IsProvedIn, options_from, plan_of}
 use Rattle.settler.specs.Tight.{AreTight}
 use Rattle.command_line.specs.Reading.{Asked}
 use Rattle.made_script.specs.Script.{script_text}
@@ -24,24 +24,12 @@ use Rattle.report.specs.Lines.{expressions_text, boxes_text}
 use Rattle.report.specs.Proved.{answer_text, made_text}
 use Rattle.report.specs.Unproved.{unproved_text}
 use Rattle.script_texts.specs.Texts.{IsRefusedWith}
-use Rattle.script_answers.specs.declared.options.Options.{Options as Asking}
 use Rattle.script_answers.specs.declared.found.Found.{Found}
 use Rattle.script_answers.specs.declared.found.Found.TheVariants as found
 
 -- How the words ask for a script to be proved. The number of workers changes no answer.
 abbrev pub options_of : Asked → Options
-options_of a = record { rounds = a.rounds; depth = a.depth; boxes = a.boxes }
-
--- the numbers are in their ranges
-pub record AreAllowed (a : Asking) : Type 0 where
-  pub rounds : a.rounds ≤ 64
-  pub depth : a.depth ≤ 32
-  pub boxes : (1 ≤ a.boxes) × (a.boxes ≤ 8192)
-  pub workers : (1 ≤ a.workers) × (a.workers ≤ 16)
-
--- the same of the program's numbers
-abbrev pub options_from : Asking → Options
-options_from a = record { rounds = a.rounds; depth = a.depth; boxes = a.boxes }
+options_of a = options_from a.options
 
 -- The text spells a script that is proved over so many boxes, with a line for each goal. The lines
 -- are tight: each is the hull, over the leaves of the trees of all its cases, of the goal's best
@@ -88,11 +76,7 @@ ProvePrints o text _ lines = ⊥
 -- ---- of the made script
 -- how it is proved
 abbrev pub made_options : Options
-made_options = record {
-  rounds = stated_options.rounds;
-  depth = stated_options.depth;
-  boxes = stated_options.boxes;
-}
+made_options = options_from stated_options
 
 -- the line of the first goal: the made script has one goal
 abbrev pub first_line : List Line → Line

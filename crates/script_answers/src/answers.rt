@@ -1,14 +1,16 @@
 // The status and the lines for a text.
 ghost use Rattle.std.specs.Prelude.{◌≡◌, IfOk};
 ghost use Rattle.report.specs.Proved as spec;
-ghost use Rattle.script_answers.specs.Answers.{AreAllowed, IsFound, ProvePrints, options_from};
+ghost use Rattle.settler.specs.Answers.{options_from};
+ghost use Rattle.proof_options.specs.Ranges.{AreAllowed};
+ghost use Rattle.script_answers.specs.Answers.{IsFound, ProvePrints};
 
 use crate::found::{Found, prove_script, prove_script_alone};
-use crate::options::Options;
 use command_runs::Status;
 use facts::HintMark;
 use fx_edge::Gate;
 use goals::Line;
+use proof_options::Options;
 use report::proved::answer_text;
 use script_grammar::{Script, parse};
 use script_texts::refused_line;

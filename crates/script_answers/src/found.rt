@@ -7,13 +7,15 @@ ghost use Rattle.settler.specs.Answers.{ComesTo, plan_of};
 ghost use Rattle.settler.specs.Cases.{AreCases};
 ghost use Rattle.settler.specs.Held.{ProvedHolds};
 ghost use Rattle.report.specs.Unproved as spec;
-ghost use Rattle.script_answers.specs.Answers.{AreAllowed, IsFound, ProvePrints, options_from};
+ghost use Rattle.settler.specs.Answers.{options_from};
+ghost use Rattle.proof_options.specs.Ranges.{AreAllowed};
+ghost use Rattle.script_answers.specs.Answers.{IsFound, ProvePrints};
 
-use crate::options::Options;
 use bisect::{OpenLeaf, Outcome, lines_of};
 use command_runs::Status;
 use fx_edge::{Gate, Items};
 use goals::Line;
+use proof_options::Options;
 use report::runs::{boxes_text, expressions_text};
 use report::unproved::unproved_text;
 use rule_universe::Universe;

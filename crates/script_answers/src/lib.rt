@@ -5,10 +5,8 @@ mod answers;
 mod found;
 mod laws;
 mod made;
-mod options;
 
 pub use answers::{answer, answer_alone, proved_lines};
 pub use found::{Found, prove_over, prove_script, prove_script_alone, unbuilt_line};
 pub use laws::{made_answers_are_one, text_answers_are_one};
 pub use made::made_answer;
-pub use options::{Options, options_of};

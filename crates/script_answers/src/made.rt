@@ -6,11 +6,10 @@ ghost use Rattle.made_script.specs.Script.{script_text};
 ghost use Rattle.script_answers.specs.Answers.{IsFound, MadePrints, first_line, made_options};
 
 use crate::found::{Found, prove_script};
-use crate::options::made_options;
 use command_runs::Status;
 use fx_edge::Gate;
 use goals::Line;
-use made_script::made_script;
+use made_script::{made_options, made_script};
 use report::proved::made_text;
 use script_grammar::{ParseStop, Script, parse};
 use script_texts::refused_line;

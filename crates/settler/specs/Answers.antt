@@ -1,6 +1,7 @@
 -- What is answered to a script: by the script and its options alone. No code and no order of work
 -- occurs in it.
 use Rattle.std.specs.Prelude.{◌≡◌, ⊤, ℕ, List, [], ◌∷◌, length}
+use Rattle.proof_options.specs.declared.options.Options.{Options as Asking}
 use Rattle.goals.specs.declared.line.Line.{Line}
 use Rattle.script_claims.specs.declared.claim.Claim.{Claim}
 use Rattle.script_grammar.specs.Spells.{View}
@@ -26,6 +27,10 @@ pub record Options : Type 0 where
   pub rounds : ℕ
   pub depth : ℕ
   pub boxes : ℕ
+
+-- those of a run, without its workers, which change no answer
+abbrev pub options_from : Asking → Options
+options_from a = record { rounds = a.rounds; depth = a.depth; boxes = a.boxes }
 
 -- options of these numbers
 abbrev pub options : ℕ → ℕ → ℕ → Options

@@ -1,5 +1,5 @@
 use Rattle.std.proofs.Common.{rules, length}
-use Rattle.script_answers.specs.Answers.{options_from}
+use Rattle.settler.specs.Answers.{options_from}
 use Rattle.batch_command.proofs.Placed.{placed}
 use Rattle.batch_command.proofs.job.answer_texts.Goals as goal
 

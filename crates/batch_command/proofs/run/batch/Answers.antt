@@ -21,6 +21,16 @@ read_list-requires g c =
     c.deref.result.now is in
     omega (arith, short)
 
+pub prove_scripts-requires-clause-allowed : goal.prove_scripts-requires-clause-allowed
+prove_scripts-requires-clause-allowed g c κs within =
+    let few = c.requires.boxes.1 in
+    record {
+      rounds = c.requires.rounds;
+      depth = c.requires.depth;
+      boxes = (c.requires.boxes.0, omega (arith, few));
+      workers = c.requires.workers;
+    }
+
 pub returns-in-Ok-read_list-clause-prints : goal.returns-in-Ok-read_list-clause-prints
 returns-in-Ok-read_list-clause-prints g c =
     let told = g.F.Folder.told c.args.folder.now in
@@ -34,7 +44,7 @@ returns-in-Ok-read_list-clause-prints g c =
     (g.F.Folder.told c.read_text.new.folder) c.read_text.ensures.only_reads.told
     (faults c.args.folder.now) (faults c.read_text.new.folder) _
     c.read_text.ensures.only_reads.later
-    _ c.options_of.ensures.is c.prove_scripts.result c.prove_scripts.ensures.prints
+    _ refl c.prove_scripts.result c.prove_scripts.ensures.prints
 
 pub returns-in-Err-Fault-read_list-clause-prints :
     goal.returns-in-Err-Fault-read_list-clause-prints

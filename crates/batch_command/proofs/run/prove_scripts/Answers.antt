@@ -1,5 +1,5 @@
 use Rattle.std.proofs.Common.{arith, map, rules, string_bytes}
-use Rattle.script_answers.specs.Answers.{options_from}
+use Rattle.settler.specs.Answers.{options_from}
 use Rattle.batch_command.specs.Told.{AreAnswers, AreRead}
 use Rattle.batch_command.proofs.Listed.{all_printed_so, as_many}
 use Rattle.batch_command.proofs.Taken.{texts_many}

@@ -2,7 +2,8 @@ use Rattle.std.proofs.Common.{◌∙◌, refl, sym, subst}
 use Rattle.rewrite_hints.specs.Marks.{AreMarks}
 use Rattle.settler.specs.Answers.{Options}
 use Rattle.report.specs.Proved.{answer_text}
-use Rattle.script_answers.specs.Answers.{IsFound, options_from}
+use Rattle.settler.specs.Answers.{options_from}
+use Rattle.script_answers.specs.Answers.{IsFound}
 use Rattle.prove_command.specs.Certified.{name_of}
 use Rattle.prove_command.proofs.Left.{is_spared}
 use Rattle.prove_command.proofs.certify.certify_found.Goals as goal

@@ -1,7 +1,7 @@
 use Rattle.std.proofs.Common.{Err, ap}
 use Rattle.saturate.proofs.Answered.{ok_map}
 use Rattle.settler.specs.Answers.{Options}
-use Rattle.script_answers.specs.Answers.{options_from}
+use Rattle.settler.specs.Answers.{options_from}
 use Rattle.prove_command.specs.Certified.{name_of}
 use Rattle.prove_command.proofs.Left.{spared_made, spared_cause}
 use Rattle.prove_command.proofs.certify.certify_script.Goals as goal

@@ -3,7 +3,7 @@ use Rattle.std.specs.Prelude.{List, ℕ, IfOk}
 use Rattle.script_grammar.specs.Spells.{View}
 use Rattle.saturate.proofs.Answered.{ok_map}
 use Rattle.settler.specs.Answers.{Options}
-use Rattle.script_answers.specs.Answers.{options_from}
+use Rattle.settler.specs.Answers.{options_from}
 use Rattle.prove_command.specs.Certified.{IsCertified, name_of}
 use Rattle.prove_command.proofs.Left.{spared_made, spared_cause}
 use Rattle.prove_command.proofs.certify.certify_text.Goals as goal

@@ -1,16 +1,16 @@
-use Rattle.std.proofs.Common.{Err, ap, subst, rules}
+use Rattle.std.proofs.Common.{Err, ap, refl, subst, rules}
 use Rattle.command_line.specs.Reading.{asked_of}
 use Rattle.script_texts.specs.Texts.{IsScriptText}
-use Rattle.script_answers.specs.Answers.{options_from}
+use Rattle.settler.specs.Answers.{options_from}
 use Rattle.prove_command.proofs.Runs.{certified_read, stopped}
 use Rattle.prove_command.proofs.run.run_prove.Goals as goal
 
 pub returns-in-Ok-certify_text : goal.returns-in-Ok-certify_text
 returns-in-Ok-certify_text g c = record {
   run = certified_read c.text_answers_are_one.ensures (asked_of c.args.request) _
-      c.in-Ok-certify_text.certified (options_from c.options_of-options.result) c.deref.result.now
+      c.in-Ok-certify_text.certified (options_from c.args.request.options) c.deref.result.now
       (g.F.Folder.told c.read_script.new.folder) (g.F.Folder.write_faults c.read_script.new.folder)
-      c.options_of-options.ensures.is
+      refl
       (subst (IsScriptText (g.F.Folder.told c.args.folder.now c.args.request.script.now))
       (search rules) c.in-Ok.ensures.text)
       c.in-Ok.ensures.only_reads.told c.in-Ok.ensures.only_reads.quiet

@@ -1,6 +1,7 @@
 use Rattle.std.proofs.Common.{ℕ, List, Err, IfOk, ap, subst}
 use Rattle.script_grammar.specs.Spells.{View}
-use Rattle.script_answers.specs.Answers.{ProvePrints, options_from}
+use Rattle.settler.specs.Answers.{options_from}
+use Rattle.script_answers.specs.Answers.{ProvePrints}
 use Rattle.script_answers.proofs.answers.answer.Goals as goal
 
 pub refused_line-requires : goal.refused_line-requires

@@ -1,5 +1,5 @@
 use Rattle.saturate.proofs.Answered.{ok_map}
-use Rattle.script_answers.specs.Answers.{options_from}
+use Rattle.settler.specs.Answers.{options_from}
 use Rattle.script_answers.proofs.answers.script_answer.Goals as goal
 
 pub returns : goal.returns

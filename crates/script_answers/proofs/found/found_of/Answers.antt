@@ -4,7 +4,7 @@ use Rattle.script_grammar.specs.Cases.{cases_of}
 use Rattle.bisect.specs.Gathered.{lines_of}
 use Rattle.settler.specs.Answers.{Options, ComesTo, IsUnproved}
 use Rattle.settler.proofs.CasesLaws.{as_many}
-use Rattle.script_answers.specs.Answers.{options_from}
+use Rattle.settler.specs.Answers.{options_from}
 use Rattle.script_answers.proofs.Answered.{proved_text}
 use Rattle.script_answers.proofs.found.found_of.Goals as goal
 

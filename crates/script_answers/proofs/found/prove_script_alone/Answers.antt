@@ -1,6 +1,6 @@
 use Rattle.std.proofs.Common.{Err, ap}
 use Rattle.saturate.proofs.Answered.{ok_map}
-use Rattle.script_answers.specs.Answers.{options_from}
+use Rattle.settler.specs.Answers.{options_from}
 use Rattle.script_answers.proofs.found.prove_script_alone.Goals as goal
 
 pub unbuilt-requires : goal.unbuilt-requires
