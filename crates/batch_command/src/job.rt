@@ -1,14 +1,14 @@
 // Scripts by number, over one set of workers.
 ghost use Rattle.std.specs.Prelude.{◌≤◌, IfOk, length};
-ghost use Rattle.settler.specs.Answers.{options_from};
 ghost use Rattle.proof_options.specs.Ranges.{AreAllowed};
+ghost use Rattle.settler.specs.Answers.{options_from};
 ghost use Rattle.batch_command.specs.Told.{AreAnswers};
 
 use command_runs::Status;
 use fx_edge::Gate;
 use job_workers::{Job, run_jobs};
 use proof_options::Options;
-use script_answers::answer_alone;
+use script_answers::answer;
 use std::alloc::{AllocError, Global};
 use std::sync::Wait;
 use std::thread::Threads;
@@ -42,7 +42,7 @@ impl<'a> Job for Scripts<'a> {
 
     fn run(&self, number: u16) -> Result<(Status, Vec<u8>), AllocError> {
         match self.texts.get(usize::from(number)) {
-            Some(text) => answer_alone(self.alloc, text, self.options),
+            Some(text) => answer(self.alloc, text, self.options),
             None => Err(AllocError),
         }
     }

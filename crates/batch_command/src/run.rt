@@ -1,11 +1,11 @@
 // The command.
-ghost use Rattle.std.specs.Prelude.{◌≡◌, ◌≤◌, IfOk, length, map, string_bytes};
+ghost use Rattle.std.specs.Prelude.{◌≤◌, IfOk, length, map, string_bytes};
 ghost use Rattle.fx_edge.specs.OnlyReads.{OnlyReads};
 ghost use Rattle.fx_edge.specs.Outside.{Rose};
 ghost use Rattle.command_line.specs.Batch.{AreInBatchRange, batch_of};
 ghost use Rattle.command_runs.specs.Runs.{run, seen};
-ghost use Rattle.settler.specs.Answers.{options_from};
 ghost use Rattle.proof_options.specs.Ranges.{AreAllowed};
+ghost use Rattle.settler.specs.Answers.{options_from};
 ghost use Rattle.batch_command.specs.Command.{IsBatchRun};
 ghost use Rattle.batch_command.specs.Told.{Prints, ScriptsPrint};
 

@@ -15,3 +15,4 @@ mod Done
 pub mod Files
 pub mod Boxes
 pub mod CasesLaws
+mod Jobs

@@ -6,12 +6,9 @@ use Rattle.script_grammar.specs.Cases.{cases_of}
 use Rattle.script_grammar.specs.Spells.{View}
 use Rattle.rule_universe.specs.Assumed.{assuming}
 use Rattle.rule_universe.specs.Worlds.{World}
-use Rattle.universe.specs.Universes.{IsUniverse}
 use Rattle.box_tree.specs.Regions.{PlanParts}
 use Rattle.bisect.specs.declared.settler.State.{State}
 use Rattle.settler.specs.Answers.{plan_of}
-use Rattle.settler.specs.Cases.{AreCases}
-use Rattle.settler.specs.declared.cases.Case.{Case}
 use Rattle.settler.specs.Standing.{AreStates}
 use Rattle.cert_bytes.specs.declared.item.Item.{Item}
 use Rattle.cert_bytes.specs.declared.item.Item.TheVariants as item
@@ -31,12 +28,6 @@ use Rattle.cert_writer.specs.Courses.{Grew, GrewToFront}
 -- the universe with nothing assumed
 abbrev pub bare : World → World
 bare u = assuming u []
-
--- What a script is answered over: a universe of it, in which some case's claims may be assumed, and
--- its cases, whose boxes are halved so often at most.
-pub record IsPlanned (s : View) (depth : ℕ) (u : World) (planned : List Case) : Type 0 where
-  pub universe : (before : List Claim) × IsUniverse s before u
-  pub cases : AreCases s depth (cases_of s) planned
 
 -- A certificate of the script with these lines: over its universe, judged against this subject,
 -- where a box is settled in so many rounds, and halved so often at most.

@@ -64,6 +64,16 @@ fn last_item(
     Ok((end_of(alloc, uni, known)?, 0))
 }
 
+/// The boxes of a case, to be settled again: over this universe, cut by this plan, in so many
+/// rounds.
+#[derive(Drop)]
+pub(crate) struct Boxes<'a> {
+    pub(crate) alloc: Global,
+    pub(crate) universe: &'a Universe,
+    pub(crate) plan: &'a Plan,
+    pub(crate) rounds: u8,
+}
+
 // What a box's pieces need behind its own items: what is known there, how many pieces there are,
 // and what was seen.
 #[derive(Drop)]
@@ -75,25 +85,26 @@ struct Own {
 
 // The bytes of the box's own items that are written.
 fn own_bytes(
-    alloc: Global,
-    uni: &Universe,
-    plan: &Plan,
-    rounds: u8,
+    boxes: &Boxes<'_>,
     path: &Path,
     parent: Option<&Known>,
     seen: Seen,
 ) -> Result<(Vec<u8>, Own), AllocError>
-    requires somewhere { IsSomewhere uni.now plan.now rounds path.now parent seen }
-    ensures own { IfOk result (λ r. OnCourses uni.now plan.now rounds path.now parent.entry seen
+    requires somewhere { IsSomewhere
+        boxes.now.universe.now boxes.now.plan.now boxes.now.rounds path.now parent seen }
+    ensures own { IfOk result (λ r. OnCourses
+        boxes.now.universe.now boxes.now.plan.now boxes.now.rounds path.now parent.entry seen
         (λ c p. AreOwnBytes c path.now p r.1.known r.1.pieces r.1.next r.0.items)) }
     ensures room { IfOk result (λ r. 0 < r.1.pieces → length path.now < 36) }
     ensures pieces { IfOk result (λ r. r.1.pieces ≤ 64) }
 {
-    walk_goes_on(plan);
+    walk_goes_on(boxes.plan);
     boxes_are_short();
     leaves_are_trimmed();
-    let (piece, cut) = plan.at(path);
-    let Traced { steps, known } = trace(alloc, uni, piece, parent, rounds, seen.steps)?;
+    let (piece, cut) = boxes.plan.at(path);
+    let alloc = boxes.alloc;
+    let uni = boxes.universe;
+    let Traced { steps, known } = trace(alloc, uni, piece, parent, boxes.rounds, seen.steps)?;
     let (last, pieces) = last_item(alloc, uni, cut, &known)?;
     let own = own_items(alloc, steps, last)?;
     let items = written_items(alloc, own, pieces, seen.steps)?;
@@ -110,30 +121,30 @@ fn own_bytes(
 
 // Writes the box's own items.
 fn write_own<F: Folder>(
-    alloc: Global,
-    uni: &Universe,
-    plan: &Plan,
-    rounds: u8,
+    boxes: &Boxes<'_>,
     folder: &mut F,
     name: &str,
     path: &Path,
     parent: Option<&Known>,
     seen: Seen,
 ) -> Result<Own, WriteStop>
-    requires somewhere { IsSomewhere uni.now plan.now rounds path.now parent seen }
-    ensures ok { IfOk result (λ own. OnCourses uni.now plan.now rounds path.now parent.entry seen
+    requires somewhere { IsSomewhere
+        boxes.now.universe.now boxes.now.plan.now boxes.now.rounds path.now parent seen }
+    ensures ok { IfOk result (λ own. OnCourses
+        boxes.now.universe.now boxes.now.plan.now boxes.now.rounds path.now parent.entry seen
         (λ c p. HasDone c path.now own.known p (F.told folder.old name.now) own.pieces 0 own.next
         (F.told folder.new name.now))) }
     ensures room { IfOk result (λ own. 0 < own.pieces → length path.now < 36) }
     ensures pieces { IfOk result (λ own. own.pieces ≤ 64) }
-    ensures err { OnErr result (OnCourses uni.now plan.now rounds path.now parent.entry seen
+    ensures err { OnErr result (OnCourses
+        boxes.now.universe.now boxes.now.plan.now boxes.now.rounds path.now parent.entry seen
         (λ c p. GrewToFront c.aim p.items (F.told folder.old name.now)
         (F.told folder.new name.now))) }
     ensures only_writes { OnlyWrites F.Folder name.now folder.old folder.new
         (IsErrOf result WriteStop.Failed) }
 {
     writing_goes_on();
-    let (bytes, own) = own_bytes(alloc, uni, plan, rounds, path, parent, seen)?;
+    let (bytes, own) = own_bytes(boxes, path, parent, seen)?;
     append_all(folder, name, &bytes)?;
     Ok(own)
 }
@@ -141,40 +152,30 @@ fn write_own<F: Folder>(
 // Writes the section of the box at the path and of those below it, where this was seen before it.
 // It answers what was seen behind it.
 pub(crate) fn write_box<F: Folder>(
-    alloc: Global,
-    uni: &Universe,
-    plan: &Plan,
-    rounds: u8,
+    boxes: &Boxes<'_>,
     folder: &mut F,
     name: &str,
     path: Path,
     parent: Option<&Known>,
     seen: Seen,
 ) -> Result<Seen, WriteStop>
-    requires somewhere { IsSomewhere uni.now plan.now rounds path parent seen }
-    ensures ok { IfOk result (λ next. OnCourses uni.now plan.now rounds path parent.entry seen
+    requires somewhere { IsSomewhere
+        boxes.now.universe.now boxes.now.plan.now boxes.now.rounds path parent seen }
+    ensures ok { IfOk result (λ next. OnCourses
+        boxes.now.universe.now boxes.now.plan.now boxes.now.rounds path parent.entry seen
         (λ c p. IsPast c p (F.told folder.old name.now) next (F.told folder.new name.now))) }
-    ensures err { OnErr result (OnCourses uni.now plan.now rounds path parent.entry seen
+    ensures err { OnErr result (OnCourses
+        boxes.now.universe.now boxes.now.plan.now boxes.now.rounds path parent.entry seen
         (λ c p. GrewToFront c.aim p.items (F.told folder.old name.now)
         (F.told folder.new name.now))) }
     ensures only_writes { OnlyWrites F.Folder name.now folder.old folder.new
         (IsErrOf result WriteStop.Failed) }
 {
-    walk_goes_on(plan);
-    let own = write_own(alloc, uni, plan, rounds, folder, name, &path, parent, seen)?;
+    walk_goes_on(boxes.plan);
+    let own = write_own(boxes, folder, name, &path, parent, seen)?;
     let mut next = own.next;
     for i in 0..own.pieces {
-        next = write_box(
-            alloc,
-            uni,
-            plan,
-            rounds,
-            folder,
-            name,
-            path.child(i),
-            Some(&own.known),
-            next,
-        )?;
+        next = write_box(boxes, folder, name, path.child(i), Some(&own.known), next)?;
     }
     Ok(next)
 }

@@ -1,21 +1,24 @@
 -- What is left in the file for the certificate of a script that is answered with lines.
-use Rattle.std.specs.Prelude.{◌≡◌, ⊤, ℕ, List, Option, Some, None, Result, Ok, Err, OnOk, OnErr}
-use Rattle.std.proofs.Common.{inl, inr, refl, sym, subst, ◌∙◌, arith}
+use Rattle.std.specs.Prelude.{◌≡◌, ◌≢◌, ⊤, ℕ, List, Option, Some, None, Result, Ok, Err}
+use Rattle.std.specs.Prelude.{IsErrOf, OnOk, OnErr}
+use Rattle.std.proofs.Common.{inl, inr, refl, sym, subst, ap, ◌∙◌, arith}
+use Rattle.fx_edge.specs.declared.outside.Folder.{Ghosts}
 use Rattle.goals.specs.declared.line.Line.{Line}
+use Rattle.proof_options.specs.declared.options.Options.{Options as Asking}
+use Rattle.proof_options.specs.Ranges.{AreAllowed}
 use Rattle.script_grammar.specs.Spells.{View}
-use Rattle.settler.specs.Answers.{Options, IsProved}
+use Rattle.settler.specs.Answers.{Options, IsProved, options_from}
+use Rattle.whole_texts.specs.OnlyWrites.{OnlyWrites}
 use Rattle.command_runs.specs.Runs.{Bytes, Told}
 use Rattle.command_runs.specs.Fates.{Left, Leaves, Makes, begun}
 use Rattle.command_runs.specs.Fates.Left.{Kept, Whole}
 use Rattle.command_runs.specs.declared.status.Status.TheVariants as status
-use Rattle.settler.specs.Answers.{options_from}
-use Rattle.proof_options.specs.Ranges.{AreAllowed}
 use Rattle.script_answers.specs.Answers.{IsAnswered, ProvePrints}
-use Rattle.proof_options.specs.declared.options.Options.{Options as Asking}
 use Rattle.cert_writer.specs.Written.{OfProved, HoldsCertificate, HoldsFront}
 use Rattle.cert_writer.specs.declared.walk.WriteStop.{WriteStop}
-use Rattle.prove_command.specs.Certified.{HasWriteCause, IsAnsweredWith, IsCertified, IsSpared}
-use Rattle.prove_command.specs.Certified.{IsStopped, left_by}
+use Rattle.cert_writer.specs.declared.walk.WriteStop.TheVariants as write_stop
+use Rattle.prove_command.specs.Certified.{HasWriteCause, IsCertified}
+use Rattle.prove_command.specs.Certified.{IsCertifiedBy, IsStopped, IsWrittenBy, left_by}
 use Rattle.prove_command.specs.Command.{IsCertificateOf, MakesFor, TextFate}
 use Rattle.prove_command.specs.declared.certify.Certified.{Certified}
 use Rattle.prove_command.proofs.Fates.{of_made, of_kept}
@@ -60,7 +63,32 @@ module _ (s : View) (a : Asking) (allowed : AreAllowed a) (P : List Line → Typ
   err_options (Ok x) so = tt
   err_options (Err e) so = of_options so
 
+-- what the writer says, of the name that is asked for
+module _ {D T : Type 0} (folder : Ghosts D) (o : Options) (s : View) (name : Bytes)
+    (cert : Option Bytes) (old new : D) (w : Result T WriteStop) (named : cert ≡ Some name) where
+  pub written_by : OnOk w ((lines : List Line) → IsProved s o lines
+      → HoldsCertificate s lines (folder.told old name) (folder.told new name))
+      → OnErr w ((lines : List Line) → IsProved s o lines
+      → HoldsFront s lines (folder.told old name) (folder.told new name))
+      → OnlyWrites folder name old new (IsErrOf w write_stop.Failed)
+      → IsWrittenBy folder o s cert old new w
+  written_by ok err only = record {
+    ok = λ n e. subst (λ (m : Bytes). OnOk w ((lines : List Line) → IsProved s o lines
+        → HoldsCertificate s lines (folder.told old m) (folder.told new m)))
+        (name_same name n cert named e) ok;
+    err = λ n e. subst (λ (m : Bytes). OnErr w ((lines : List Line) → IsProved s o lines
+        → HoldsFront s lines (folder.told old m) (folder.told new m)))
+        (name_same name n cert named e) err;
+    named = λ stopped none. let h : Some name ≡ None = sym named ∙ none in cc h;
+    others = λ other n. only.others other (λ e. n (named ∙ ap Some (sym e)));
+    cause = record { later = only.later; failed = only.cause };
+  }
+
 -- ---- of a script that is answered
+-- The script is answered with these lines.
+abbrev pub IsAnsweredWith : Options → View → Bytes → Type 0
+IsAnsweredWith o s lines = (d : IsAnswered o s.text lines) × (d.script ≡ s)
+
 module _ (o : Options) (s : View) (lines : Bytes) (given : IsAnsweredWith o s lines) where
   abbrev answered : IsAnswered o s.text lines
   answered = given.0
@@ -71,10 +99,6 @@ module _ (o : Options) (s : View) (lines : Bytes) (given : IsAnsweredWith o s li
   shown_is : IsProved s o answered.shown
   shown_is = subst (λ (v : View). IsProved v o answered.shown) script_is
       (answered.boxes, answered.proved.proved)
-
-  -- it is proved
-  pub is_proved : (shown : List Line) × IsProved s o shown
-  is_proved = (answered.shown, shown_is)
 
   -- what is so of its lines, is so of those of the answer
   so : (P : View → List Line → Type 0) → ((shown : List Line) → IsProved s o shown → P s shown)
@@ -137,27 +161,62 @@ is_spared o text cert old new c done kept p makes = record {
   named = λ stopped. absurd (done stopped);
 }
 
--- none is asked for
-pub none_asked : (o : Options) (text : Bytes) (cert : Option Bytes) (told : Told) (c : Certified)
-    → ¬ IsStopped c.written → cert ≡ None → c.status ≡ status.Answered
-    → IsAnswered o text c.lines.items → IsCertified o text cert told told c
-none_asked o text cert told c done none is d =
-    is_spared o text cert told told c done (λ n. refl)
-    (subst (λ s. ProvePrints o text s c.lines.items) (sym is) d)
-    (λ _ a. subst (λ k. MakesFor k (IsCertificateOf (IsStopped c.written) a.script a.shown) Kept)
-    (sym none) refl)
-
--- no proof is claimed
-pub spared_made : (o : Options) (text : Bytes) (cert : Option Bytes) (told : Told) (c : Certified)
-    → IsSpared o text c → IsCertified o text cert told told c
-spared_made o text cert told c h =
-    is_spared o text cert told told c h.done (λ n. refl) h.prints (λ e. absurd (h.other e))
+-- The text isn't proved, but answered by this status and these lines, and nothing was to be
+-- written.
+pub record IsSpared (o : Options) (text : Bytes) (c : Certified) : Type 0 where
+  pub other : c.status ≢ status.Answered
+  pub prints : ProvePrints o text c.status c.lines.items
+  pub done : ¬ IsStopped c.written
 
 -- no write failed
 quiet_cause : {T : Type 0} (w : ℕ) (r : Result T WriteStop) → ¬ IsStopped r → HasWriteCause w w r
 quiet_cause w (Ok x) done = record { later = omega arith; failed = λ e. cc e }
 quiet_cause w (Err e) done = absurd (done tt)
 
-pub spared_cause : (o : Options) (text : Bytes) (w : ℕ) (c : Certified) → IsSpared o text c
-    → HasWriteCause w w c.written
-spared_cause o text w c h = quiet_cause w c.written h.done
+-- ---- what came of a text
+module _ {D E : Type 0} (folder : Ghosts D) (o : Options) (text : Bytes) (cert : Option Bytes) where
+  -- no proof is claimed
+  pub spared_by : (at : D) (c : Certified) → IsSpared o text c
+      → IsCertifiedBy {D} {E} folder o text cert at at (Ok c)
+  spared_by at c h = record {
+    made = is_spared o text cert (folder.told at) (folder.told at) c h.done (λ n. refl) h.prints
+        (λ e. absurd (h.other e));
+    others = λ other n. refl;
+    cause = quiet_cause (folder.write_faults at) c.written h.done;
+    still = tt;
+  }
+
+  -- memory ran out before anything was written
+  pub starved_by : (at : D) (e : E) → IsCertifiedBy folder o text cert at at (Err e)
+  starved_by at e = record {
+    made = tt;
+    others = λ other n. refl;
+    cause = tt;
+    still = λ name. refl;
+  }
+
+-- a proved script's certificate is written, where it is asked for
+module _ {D E : Type 0} (folder : Ghosts D) (o : Options) (s : View) (lines : Bytes)
+    (given : IsAnsweredWith o s lines) (old new : D) where
+  made_by : (cert : Option Bytes) (c : Certified) → c.status ≡ status.Answered
+      → c.lines.items ≡ lines → IsWrittenBy folder o s cert old new c.written
+      → IsCertified o s.text cert (folder.told old) (folder.told new) c
+  made_by None c answered same h =
+      is_spared o s.text None (folder.told old) (folder.told new) c
+      (λ stopped. h.named stopped refl) (λ n. h.others n (λ e. cc e))
+      (subst (λ (ms : Bytes). ProvePrints o s.text c.status ms) (sym same)
+      (subst (λ t. ProvePrints o s.text t lines) (sym answered) given.0))
+      (λ _ d. refl)
+  made_by (Some name) c answered same h =
+      is_certified o s lines given c (Some name) name (folder.told old) (folder.told new)
+      answered same refl (h.ok name refl) (h.err name refl)
+
+  pub certified_by : (cert : Option Bytes) (c : Certified) → c.status ≡ status.Answered
+      → c.lines.items ≡ lines → IsWrittenBy folder o s cert old new c.written
+      → IsCertifiedBy {D} {E} folder o s.text cert old new (Ok c)
+  certified_by cert c answered same h = record {
+    made = made_by cert c answered same h;
+    others = h.others;
+    cause = h.cause;
+    still = tt;
+  }

@@ -1,26 +1,24 @@
 -- What came of a text before its lines are put.
 use Rattle.std.specs.Prelude.{◌≡◌, ◌≢◌, ◌≤◌, ⊤, ℕ, List, Option, Some, None, Result, Ok, Err}
-use Rattle.std.specs.Prelude.{IsErrOf}
+use Rattle.std.specs.Prelude.{IfOk, IsErrOf, OnOk, OnErr}
 use Rattle.std.specs.Borrow.{Bor}
 use Rattle.std.specs.Option.{option_map}
 use Rattle.std.specs.Io.KnownBytes.{Keeps}
 use Rattle.fx_edge.specs.Outside.{Rose}
+use Rattle.fx_edge.specs.declared.outside.Folder.{Ghosts}
+use Rattle.goals.specs.declared.line.Line.{Line}
 use Rattle.script_grammar.specs.Spells.{View}
-use Rattle.settler.specs.Answers.{Options}
+use Rattle.settler.specs.Answers.{Options, IsProved}
 use Rattle.command_runs.specs.Runs.{Bytes, Told}
 use Rattle.command_runs.specs.Fates.{Left, Leaves, begun}
 use Rattle.command_runs.specs.Ends.{IsPut}
 use Rattle.command_runs.specs.declared.status.Status.{Status}
 use Rattle.command_runs.specs.declared.status.Status.TheVariants as status
-use Rattle.script_answers.specs.Answers.{IsAnswered, ProvePrints}
+use Rattle.cert_writer.specs.Written.{HoldsCertificate, HoldsFront}
 use Rattle.cert_writer.specs.declared.walk.WriteStop.{WriteStop}
 use Rattle.cert_writer.specs.declared.walk.WriteStop.TheVariants as write_stop
 use Rattle.prove_command.specs.Command.{TextFate}
 use Rattle.prove_command.specs.declared.certify.Certified.{Certified}
-
--- The script is answered with these lines.
-abbrev pub IsAnsweredWith : Options → View → Bytes → Type 0
-IsAnsweredWith o s lines = (d : IsAnswered o s.text lines) × (d.script ≡ s)
 
 -- the name that is given for a certificate
 abbrev pub name_of : Option (Bor (List ℕ)) → Option Bytes
@@ -50,12 +48,27 @@ pub record HasWriteCause {T : Type 0} (before now : ℕ) (result : Result T Writ
   pub later : before ≤ now
   pub failed : IsErrOf result write_stop.Failed → Rose before now
 
--- The text isn't proved, but answered by this status and these lines, and nothing was to be
--- written.
-pub record IsSpared (o : Options) (text : Bytes) (c : Certified) : Type 0 where
-  pub other : c.status ≢ status.Answered
-  pub prints : ProvePrints o text c.status c.lines.items
-  pub done : ¬ IsStopped c.written
+-- What came of a text, and of the folder by it. An error comes only before anything is written.
+pub record IsCertifiedBy {D E : Type 0} (folder : Ghosts D) (o : Options) (text : Bytes)
+    (cert : Option Bytes) (old new : D) (result : Result Certified E) : Type 0 where
+  pub made : IfOk result (IsCertified o text cert (folder.told old) (folder.told new))
+  -- no other name's bytes change
+  pub others : (other : Bytes) → cert ≢ Some other → folder.told new other ≡ folder.told old other
+  pub cause : IfOk result (λ c.
+      HasWriteCause (folder.write_faults old) (folder.write_faults new) c.written)
+  pub still : OnErr result ((name : Bytes) → folder.told new name ≡ folder.told old name)
+
+-- The certificate of a proved script is written under the name, as far as that came; where none is
+-- given, nothing is.
+pub record IsWrittenBy {D T : Type 0} (folder : Ghosts D) (o : Options) (s : View)
+    (cert : Option Bytes) (old new : D) (result : Result T WriteStop) : Type 0 where
+  pub ok : (name : Bytes) → cert ≡ Some name → OnOk result ((lines : List Line)
+      → IsProved s o lines → HoldsCertificate s lines (folder.told old name) (folder.told new name))
+  pub err : (name : Bytes) → cert ≡ Some name → OnErr result ((lines : List Line)
+      → IsProved s o lines → HoldsFront s lines (folder.told old name) (folder.told new name))
+  pub named : IsStopped result → cert ≢ None
+  pub others : (other : Bytes) → cert ≢ Some other → folder.told new other ≡ folder.told old other
+  pub cause : HasWriteCause (folder.write_faults old) (folder.write_faults new) result
 
 -- Lines are put behind a writing that came to its end; behind one that stopped, nothing is.
 abbrev pub IsPutBehind : {T : Type 0} → Result T WriteStop → Status → Bytes

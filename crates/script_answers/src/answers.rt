@@ -1,22 +1,21 @@
 // The status and the lines for a text.
 ghost use Rattle.std.specs.Prelude.{◌≡◌, IfOk};
-ghost use Rattle.report.specs.Proved as spec;
-ghost use Rattle.settler.specs.Answers.{options_from};
 ghost use Rattle.proof_options.specs.Ranges.{AreAllowed};
+ghost use Rattle.settler.specs.Answers.{options_from};
+ghost use Rattle.settler.specs.Jobs.{IsJob};
+ghost use Rattle.report.specs.Proved as spec;
 ghost use Rattle.script_answers.specs.Answers.{IsFound, ProvePrints};
 
-use crate::found::{Found, prove_script, prove_script_alone};
+use crate::found::{Found, prove_job_alone, unbuilt_line};
 use command_runs::Status;
 use facts::HintMark;
-use fx_edge::Gate;
 use goals::Line;
 use proof_options::Options;
 use report::proved::answer_text;
 use script_grammar::{Script, parse};
 use script_texts::refused_line;
+use settler::Job;
 use std::alloc::{AllocError, Global};
-use std::sync::Wait;
-use std::thread::Threads;
 use universe::classify;
 
 /// The lines of a script that is proved, where this is shown of its goals and its hints have these
@@ -60,24 +59,19 @@ fn lines_for(
     }
 }
 
+// What is answered to a job, by this thread alone.
+fn job_answer(alloc: Global, job: &mut Job<'_, '_>) -> Result<(Status, Vec<u8>), AllocError>
+    requires { IsJob job.old }
+    ensures { IfOk result (λ r.
+        ProvePrints (options_from job.old.options) job.old.script.now.text r.0 r.1.items) }
+{
+    let found = prove_job_alone(alloc, job)?;
+    lines_for(alloc, job.script, found)
+}
+
 // What is answered to a script. Who calls it has the script, and does nothing else with it: a
 // function that owns a script has a long proof of its own.
-fn script_answer<G: Gate, R: Threads + Wait + Sync>(
-    rt: &R,
-    alloc: Global,
-    script: &Script<'_>,
-    options: Options,
-    gate: &G,
-) -> Result<(Status, Vec<u8>), AllocError>
-    requires { AreAllowed options }
-    ensures { IfOk result (λ r. ProvePrints (options_from options) script.now.text r.0 r.1.items) }
-{
-    let found = prove_script(rt, alloc, script, options, gate)?;
-    lines_for(alloc, script, found)
-}
-
-// The same by this thread alone.
-fn script_answer_alone(
+fn script_answer(
     alloc: Global,
     script: &Script<'_>,
     options: Options,
@@ -85,39 +79,20 @@ fn script_answer_alone(
     requires { AreAllowed options }
     ensures { IfOk result (λ r. ProvePrints (options_from options) script.now.text r.0 r.1.items) }
 {
-    let found = prove_script_alone(alloc, script, options)?;
-    lines_for(alloc, script, found)
-}
-
-/// What is answered to a text under the options: the status and all lines. `Err` only where memory
-/// runs out. It may wait.
-pub fn answer<G: Gate, R: Threads + Wait + Sync>(
-    rt: &R,
-    alloc: Global,
-    text: &[u8],
-    options: Options,
-    gate: &G,
-) -> Result<(Status, Vec<u8>), AllocError>
-    requires { AreAllowed options }
-    ensures { IfOk result (λ r. ProvePrints (options_from options) text.now r.0 r.1.items) }
-{
-    match parse(alloc, text) {
-        Ok(script) => script_answer(rt, alloc, &script, options, gate),
-        Err(stop) => Ok((Status::Script, refused_line(alloc, text, stop)?)),
+    match Job::new(alloc, script, options) {
+        Ok(mut job) => job_answer(alloc, &mut job),
+        Err(fault) => Ok((Status::Limit, unbuilt_line(alloc, script, fault)?)),
     }
 }
 
-/// The same by this thread alone: it calls no gate, and waits for nobody.
-pub fn answer_alone(
-    alloc: Global,
-    text: &[u8],
-    options: Options,
-) -> Result<(Status, Vec<u8>), AllocError>
+/// What is answered to a text under the options, by this thread alone: the status and all lines. It
+/// calls no gate, and waits for nobody. `Err` only where memory runs out.
+pub fn answer(alloc: Global, text: &[u8], options: Options) -> Result<(Status, Vec<u8>), AllocError>
     requires { AreAllowed options }
     ensures { IfOk result (λ r. ProvePrints (options_from options) text.now r.0 r.1.items) }
 {
     match parse(alloc, text) {
-        Ok(script) => script_answer_alone(alloc, &script, options),
+        Ok(script) => script_answer(alloc, &script, options),
         Err(stop) => Ok((Status::Script, refused_line(alloc, text, stop)?)),
     }
 }

@@ -6,7 +6,7 @@ mod found;
 mod laws;
 mod made;
 
-pub use answers::{answer, answer_alone, proved_lines};
-pub use found::{Found, prove_over, prove_script, prove_script_alone, unbuilt_line};
+pub use answers::{answer, proved_lines};
+pub use found::{Found, prove_job, prove_job_alone, unbuilt_line};
 pub use laws::{made_answers_are_one, text_answers_are_one};
 pub use made::made_answer;

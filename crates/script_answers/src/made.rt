@@ -3,9 +3,11 @@ ghost use Rattle.std.specs.Prelude.{◌≡◌, IfOk};
 ghost use Rattle.script_judge.specs.declared.refusal.Refusal.{Refusal};
 ghost use Rattle.script_grammar.specs.Spells.{IsRefused};
 ghost use Rattle.made_script.specs.Script.{script_text};
+ghost use Rattle.settler.specs.Answers.{options_from};
+ghost use Rattle.settler.specs.Jobs.{IsJob};
 ghost use Rattle.script_answers.specs.Answers.{IsFound, MadePrints, first_line, made_options};
 
-use crate::found::{Found, prove_script};
+use crate::found::{Found, prove_job, unbuilt_line};
 use command_runs::Status;
 use fx_edge::Gate;
 use goals::Line;
@@ -13,6 +15,7 @@ use made_script::{made_options, made_script};
 use report::proved::made_text;
 use script_grammar::{ParseStop, Script, parse};
 use script_texts::refused_line;
+use settler::Job;
 use std::alloc::{AllocError, Global};
 use std::sync::Wait;
 use std::thread::Threads;
@@ -64,6 +67,23 @@ fn made_unread(
     Ok((Status::Script, line))
 }
 
+// What is answered to the job of the made script.
+fn made_job_answer<G: Gate, R: Threads + Wait + Sync>(
+    rt: &R,
+    alloc: Global,
+    n: u8,
+    job: &mut Job<'_, '_>,
+    gate: &G,
+) -> Result<(Status, Vec<u8>), AllocError>
+    requires job { IsJob job.old }
+    requires text { job.old.script.now.text ≡ script_text n }
+    requires options { options_from job.old.options ≡ made_options }
+    ensures { IfOk result (λ r. MadePrints n r.0 r.1.items) }
+{
+    let found = prove_job(rt, alloc, job, gate)?;
+    made_lines(alloc, n, job.script, found)
+}
+
 // What is answered to the made script, which was read.
 fn made_script_answer<G: Gate, R: Threads + Wait + Sync>(
     rt: &R,
@@ -75,8 +95,13 @@ fn made_script_answer<G: Gate, R: Threads + Wait + Sync>(
     requires { script.now.text ≡ script_text n }
     ensures { IfOk result (λ r. MadePrints n r.0 r.1.items) }
 {
-    let found = prove_script(rt, alloc, script, made_options(), gate)?;
-    made_lines(alloc, n, script, found)
+    match Job::new(alloc, script, made_options()) {
+        Ok(mut job) => made_job_answer(rt, alloc, n, &mut job, gate),
+        Err(fault) => {
+            let line = unbuilt_line(alloc, script, fault)?;
+            Ok((Status::Limit, line))
+        }
+    }
 }
 
 // What is answered to the made script's text.

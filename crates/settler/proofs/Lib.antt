@@ -11,3 +11,4 @@ pub mod Open
 pub mod One
 pub mod Comes
 pub mod CasesLaws
+pub mod Jobs

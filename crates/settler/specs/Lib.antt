@@ -8,3 +8,4 @@ pub mod Cases
 pub mod Open
 pub mod One
 pub mod Calls
+pub mod Jobs

@@ -32,9 +32,13 @@ pub(crate) fn plan_is_lawful(plan: &Plan)
     rules_are_sound_for();
 }
 
-/// The cases of the script, in order, each with its plan, by which boxes are halved so often at
-/// most (0 to 32). Lack of memory is the only error.
-pub fn planned_cases(alloc: Global, script: &Script<'_>, depth: u8) -> Result<Vec<Case>, AllocError>
+// The cases of the script, in order, each with its plan, by which boxes are halved so often at
+// most (0 to 32). Lack of memory is the only error.
+pub(crate) fn planned_cases(
+    alloc: Global,
+    script: &Script<'_>,
+    depth: u8,
+) -> Result<Vec<Case>, AllocError>
     requires { depth ≤ 32 }
     ensures { IfOk result (λ cases. AreCases script.now depth (cases_of script.now) cases.items) }
 {

@@ -8,6 +8,7 @@ use bisect::{Leaf, Outcome};
 use box_tree::Plan;
 use box_workers::run;
 use fx_edge::OpenGate;
+use proof_options::Options;
 use std::alloc::{AllocError, Global};
 use std::marker::Brand;
 use std::process::Abort;
@@ -47,7 +48,13 @@ fn answer_in<W: World, R: Threads + Wait + Sync>(
     requires { (p : List ℕ) → cut_at plan.now p ≡ W.cut_at p }
 {
     let settler = two_ways::<W>(plan, refused);
-    let found = run(rt, alloc, &settler, &OpenGate, plan, 4, 4096)?;
+    let options = Options {
+        rounds: 8,
+        depth: 16,
+        boxes: 4096,
+        workers: 4,
+    };
+    let found = run(rt, alloc, &settler, &OpenGate, plan, options)?;
     Ok((is_whole(&found), settler.calls.load(Ordering::SeqCst)))
 }
 

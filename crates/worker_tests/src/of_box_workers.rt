@@ -7,6 +7,7 @@ use bisect::Outcome;
 use box_tree::Plan;
 use box_workers::run;
 use fx_edge::{Gate, OpenGate, Path};
+use proof_options::Options;
 use std::alloc::{AllocError, Global};
 use std::marker::Brand;
 use std::process::Abort;
@@ -91,7 +92,13 @@ fn answer_in<W: World, G: Gate, R: Threads + Wait + Sync>(
     requires boxes { (1 ≤ boxes) × (boxes ≤ 8192) }
 {
     let settler = two_ways::<W>(plan, refused);
-    let found = run(rt, alloc, &settler, gate, plan, workers, boxes)?;
+    let options = Options {
+        rounds: 8,
+        depth: 16,
+        boxes,
+        workers,
+    };
+    let found = run(rt, alloc, &settler, gate, plan, options)?;
     Ok(summary(&found, settler.calls.load(Ordering::SeqCst)))
 }
 

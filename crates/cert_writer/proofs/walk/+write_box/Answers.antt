@@ -10,7 +10,8 @@ use Rattle.cert_writer.proofs.Files.{on_err}
 pub write_box-requires : goal.write_box-requires
 write_box-requires g t c κs within =
     let s = c.requires.1.1.1 in
-    let x = course c.args.uni.now c.args.plan.now c.args.rounds s.0 s.1 s.2 in
+    let x = course c.args.boxes.now.universe.now c.args.boxes.now.plan.now c.args.boxes.now.rounds
+    s.0 s.1 s.2 in
     let w = (c.loop-i.invariant.done s.0 s.1 s.2 s.3 s.4 s.5).0 c.loop-i-test.true in
     let there : length c.args.path < 36 = let l = c.loop-i-test.true in
     c.in_ok-own.ensures.room (omega (arith, l)) in
@@ -38,10 +39,13 @@ returns-in_err-next-clause-err g t c =
     let old = g.F.Folder.told c.args.folder.now c.args.name.now in
     let mid = g.F.Folder.told c.loop-i.folder c.args.name.now in
     let new = g.F.Folder.told c.write_box.new.folder c.args.name.now in
-    on_err c.from_residual-in_err-next.result (OnCourses c.args.uni.now c.args.plan.now
-    c.args.rounds c.args.path c.args.parent c.args.seen (λ x p. GrewToFront x.aim p.items old new))
+    on_err c.from_residual-in_err-next.result (OnCourses c.args.boxes.now.universe.now
+    c.args.boxes.now.plan.now
+    c.args.boxes.now.rounds c.args.path c.args.parent c.args.seen (λ x p. GrewToFront x.aim p.items
+    old new))
     (λ q lines states p is before.
-    let x = course c.args.uni.now c.args.plan.now c.args.rounds q lines states in
+    let x = course c.args.boxes.now.universe.now c.args.boxes.now.plan.now c.args.boxes.now.rounds q
+    lines states in
     let w = (c.loop-i.invariant.done q lines states p is before).0 c.loop-i-test.true in
     begun_later x.aim p.items w.place.items old mid new w.grew
     (c.in_err-next.ensures.err q lines states w.place is
@@ -54,7 +58,8 @@ loop-i-preserved g t c = record {
       let old = g.F.Folder.told c.args.folder.now c.args.name.now in
       let mid = g.F.Folder.told c.loop-i.folder c.args.name.now in
       let new = g.F.Folder.told c.write_box.new.folder c.args.name.now in
-      let x = course c.args.uni.now c.args.plan.now c.args.rounds q lines states in
+      let x = course c.args.boxes.now.universe.now c.args.boxes.now.plan.now c.args.boxes.now.rounds
+      q lines states in
       let laws = c.walk_goes_on.ensures in
       let w = (c.loop-i.invariant.done q lines states p is before).0 c.loop-i-test.true in
       turn laws.tables laws.writing x is

@@ -8,7 +8,8 @@ decreases-write_box g l = 36 - length l.path
 
 abbrev pub invariant-loop-i : goal.invariant-loop-i
 invariant-loop-i g l = record {
-  done : OnCourses l.uni l.plan l.rounds l.path l.fn.parent l.fn.seen (λ c p.
+  done : OnCourses l.boxes.universe.now l.boxes.plan.now l.boxes.rounds l.path l.fn.parent l.fn.seen
+      (λ c p.
       HasDone c l.path l.own.known p (g.F.Folder.told l.fn.folder l.name) l.own.pieces l.i l.next
       (g.F.Folder.told l.folder l.name));
   only_writes : OnlyWrites g.F.Folder l.name l.fn.folder l.folder ⊥;

@@ -10,10 +10,12 @@ use Rattle.cert_writer.proofs.walk.write_own.Goals as goal
 pub returns-in_err-bytes-clause-err : goal.returns-in_err-bytes-clause-err
 returns-in_err-bytes-clause-err g c =
     let told = g.F.Folder.told c.args.folder.now c.args.name.now in
-    on_err c.from_residual.result (OnCourses c.args.uni.now c.args.plan.now c.args.rounds
+    on_err c.from_residual.result (OnCourses c.args.boxes.now.universe.now c.args.boxes.now.plan.now
+    c.args.boxes.now.rounds
     c.args.path.now c.args.parent c.args.seen (λ x p. GrewToFront x.aim p.items told told))
     (λ t lines states p is before.
-    let aim = (course c.args.uni.now c.args.plan.now c.args.rounds t lines states).aim in
+    let aim = (course c.args.boxes.now.universe.now c.args.boxes.now.plan.now
+    c.args.boxes.now.rounds t lines states).aim in
     begun_still aim p.items told told
     (c.writing_goes_on.ensures.begun aim is.aim p before.here) refl)
 
@@ -22,7 +24,8 @@ returns-in_err-append_all-clause-err g c =
     let old = g.F.Folder.told c.args.folder.now c.args.name.now in
     let new = g.F.Folder.told c.append_all.new.folder c.args.name.now in
     on_err c.from_residual-in_err-append_all.result
-    (OnCourses c.args.uni.now c.args.plan.now c.args.rounds c.args.path.now c.args.parent
+    (OnCourses c.args.boxes.now.universe.now c.args.boxes.now.plan.now c.args.boxes.now.rounds
+    c.args.path.now c.args.parent
     c.args.seen (λ x p. GrewToFront x.aim p.items old new))
     (λ t lines states p is before.
     (c.in_ok-bytes.ensures.own t lines states p is before).front old new

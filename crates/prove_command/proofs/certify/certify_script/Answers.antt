@@ -1,24 +1,31 @@
-use Rattle.std.proofs.Common.{Err, ap}
-use Rattle.saturate.proofs.Answered.{ok_map}
-use Rattle.settler.specs.Answers.{Options}
+use Rattle.std.proofs.Common.{Err, ap, subst}
+use Rattle.proof_options.specs.declared.options.Options.{Options}
+use Rattle.script_grammar.specs.Spells.{View}
 use Rattle.settler.specs.Answers.{options_from}
-use Rattle.prove_command.specs.Certified.{name_of}
-use Rattle.prove_command.proofs.Left.{spared_made, spared_cause}
+use Rattle.prove_command.specs.Certified.{IsCertifiedBy, name_of}
+use Rattle.prove_command.proofs.Left.{spared_by}
 use Rattle.prove_command.proofs.certify.certify_script.Goals as goal
 
-pub certify_unbuilt-requires : goal.certify_unbuilt-requires
-certify_unbuilt-requires g c = λ e. c.in-Err.ensures.many (ap Err e)
+pub certify_job-requires : goal.certify_job-requires
+certify_job-requires g c κs within = c.in-Ok.ensures.job
 
-pub returns-in-Err-clause-made : goal.returns-in-Err-clause-made
-returns-in-Err-clause-made g c =
-    let o : Options = options_from c.args.options in
-    ok_map c.certify_unbuilt.result c.certify_unbuilt.ensures
-    (λ d spared. spared_made o c.args.script.now.text (name_of c.args.cert)
-    (g.F.Folder.told c.args.folder.now) d (spared o))
+pub unbuilt_line-requires : goal.unbuilt_line-requires
+unbuilt_line-requires g c = λ e. c.in-Err.ensures.many (ap Err e)
 
-pub returns-in-Err-clause-cause : goal.returns-in-Err-clause-cause
-returns-in-Err-clause-cause g c =
-    let o : Options = options_from c.args.options in
-    ok_map c.certify_unbuilt.result c.certify_unbuilt.ensures
-    (λ d spared. spared_cause o c.args.script.now.text
-    (g.F.Folder.write_faults c.args.folder.now) d (spared o))
+pub returns-in-Ok : goal.returns-in-Ok
+returns-in-Ok g c =
+    subst (λ (v : View). IsCertifiedBy g.F.Folder (options_from c.args.options) v.text
+    (name_of c.args.cert) c.args.folder.now c.certify_job.new.folder c.certify_job.result)
+    c.in-Ok.ensures.script
+    (subst (λ (o : Options). IsCertifiedBy g.F.Folder (options_from o)
+    c.in-Ok.job.script.now.text (name_of c.args.cert) c.args.folder.now
+    c.certify_job.new.folder c.certify_job.result) c.in-Ok.ensures.options c.certify_job.ensures)
+
+pub returns-in_ok-lines-in-Err : goal.returns-in_ok-lines-in-Err
+returns-in_ok-lines-in-Err g c =
+    spared_by g.F.Folder (options_from c.args.options) c.args.script.now.text
+    (name_of c.args.cert) c.args.folder.now _ (record {
+      other = λ e. cc e;
+      prints = c.in_ok-lines-in-Err.ensures (options_from c.args.options);
+      done = λ h. h;
+    })

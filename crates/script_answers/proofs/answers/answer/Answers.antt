@@ -5,10 +5,10 @@ use Rattle.script_answers.specs.Answers.{ProvePrints}
 use Rattle.script_answers.proofs.answers.answer.Goals as goal
 
 pub refused_line-requires : goal.refused_line-requires
-refused_line-requires g c = λ r e. c.in-Err.ensures.refused r (ap Err e)
+refused_line-requires c = λ r e. c.in-Err.ensures.refused r (ap Err e)
 
 pub returns-in-Ok : goal.returns-in-Ok
-returns-in-Ok g c =
+returns-in-Ok c =
     subst
     (λ (text : List ℕ). IfOk c.script_answer.result
     (λ r. ProvePrints (options_from c.args.options) text r.0 r.1.items))

@@ -22,8 +22,9 @@ pub loop-case-init : goal.loop-case-init
 loop-case-init g c = record {
   ends = λ found e.
       let u = c.args.universe.now in
-      subst (λ w. EndsAs w (trees_in u c.args.rounds c.args.cases.now) found) c.new-gathered.ensures
-      (subst (λ xs. EndsAs c.new-gathered.result (trees_in u c.args.rounds xs) found)
+      subst (λ w. EndsAs w (trees_in u c.args.options.rounds c.args.cases.now) found)
+      c.new-gathered.ensures
+      (subst (λ xs. EndsAs c.new-gathered.result (trees_in u c.args.options.rounds xs) found)
       (drop_none c.args.cases.now) e);
   limit = ap (λ w. w.limit) c.new-gathered.ensures;
   few = let e = ap (λ w. w.cases) c.new-gathered.ensures in omega (arith, e);
@@ -36,7 +37,7 @@ pub returns-then-left-eq0 : goal.returns-then-left-eq0
 returns-then-left-eq0 g c =
     let s = c.args.script.now in
     let u = c.args.universe.now in
-    let r = c.args.rounds in
+    let r = c.args.options.rounds in
     let cs = c.args.cases.now in
     let i = c.loop-case.case-index in
     let case = c.case-item.result in
@@ -49,7 +50,8 @@ returns-then-left-eq0 g c =
     let left = c.left-left.ensures.left in
     let none = c.if-left-eq0.true in
     record {
-      comes = c.trees_are_gathered.ensures.starts (trees_in u r cs) c.args.boxes outcome.BoxLimit
+      comes = c.trees_are_gathered.ensures.starts (trees_in u r cs) c.args.options.boxes
+          outcome.BoxLimit
           (c.loop-case.invariant.ends outcome.BoxLimit
           (subst (λ xs. EndsAs w (trees_in u r xs) outcome.BoxLimit) (sym split)
           (none_left c.trees_are_gathered.ensures.boxes s u r c.trees_are_gathered.ensures.none
@@ -96,12 +98,18 @@ answered-requires-clause-fits g c =
     subst (Fits c.assume.new.universe) (sym is.1.plan)
     (c.plans_fit.ensures s case.claims is.0 universe)
 
-pub answered-requires-clause-boxes : goal.answered-requires-clause-boxes
-answered-requires-clause-boxes g c =
+pub answered-requires-clause-allowed : goal.answered-requires-clause-allowed
+answered-requires-clause-allowed g c =
     let left = c.left-left.ensures.left in
     let limit = c.loop-case.invariant.limit in
-    let most = c.requires.boxes in
-    (omega (arith, c.if-left-eq0.false), omega (arith, left, limit, most))
+    let allowed = c.requires.allowed in
+    let most = allowed.boxes.1 in
+    record {
+      rounds = allowed.rounds;
+      depth = allowed.depth;
+      boxes = (omega (arith, c.if-left-eq0.false), omega (arith, left, limit, most));
+      workers = allowed.workers;
+    }
 
 pub add-requires-clause-few : goal.add-requires-clause-few
 add-requires-clause-few g c =
@@ -114,13 +122,14 @@ add-requires-clause-within g c =
     let case = c.case-item.result in
     subst (λ n. IsWithin n c.in_ok-outcome.outcome) c.left-left.ensures.left
     (c.trees_are_gathered.ensures.within (tree_of (cut_at case.plan) (state_at c.assume.new.universe
-    case.plan c.args.rounds)) c.left-left.result c.in_ok-outcome.outcome c.in_ok-outcome.ensures)
+    case.plan c.args.options.rounds)) c.left-left.result c.in_ok-outcome.outcome
+    c.in_ok-outcome.ensures)
 
 pub returns-then-not-branch : goal.returns-then-not-branch
 returns-then-not-branch g c =
     let s = c.args.script.now in
     let u = c.args.universe.now in
-    let r = c.args.rounds in
+    let r = c.args.options.rounds in
     let cs = c.args.cases.now in
     let i = c.loop-case.case-index in
     let case = c.case-item.result in
@@ -135,7 +144,8 @@ returns-then-not-branch g c =
     c.in_ok-assume.ensures.assumed ∙ ap (λ claims. assuming c.loop-case.universe
     (facts_of claims)) c.as_slice.ensures ∙ inv.same (facts_of case.claims) in
     record {
-      comes = c.trees_are_gathered.ensures.starts (trees_in u r cs) c.args.boxes outcome.BoxLimit
+      comes = c.trees_are_gathered.ensures.starts (trees_in u r cs) c.args.options.boxes
+          outcome.BoxLimit
           (inv.ends outcome.BoxLimit
           (subst (λ xs. EndsAs w (trees_in u r xs) outcome.BoxLimit) (sym split)
           (too_many c.trees_are_gathered.ensures.boxes s u r c.trees_are_gathered.ensures.over
@@ -149,7 +159,7 @@ pub loop-case-preserved : goal.loop-case-preserved
 loop-case-preserved g c =
     let s = c.args.script.now in
     let u = c.args.universe.now in
-    let r = c.args.rounds in
+    let r = c.args.options.rounds in
     let cs = c.args.cases.now in
     let i = c.loop-case.case-index in
     let case = c.case-item.result in
@@ -188,13 +198,14 @@ loop-case-preserved g c =
 pub returns : goal.returns
 returns g c =
     let u = c.args.universe.now in
-    let r = c.args.rounds in
+    let r = c.args.options.rounds in
     let cs = c.args.cases.now in
     let i = c.loop-case.case-index in
     let w = c.loop-case.gathered in
     let inv = c.loop-case.invariant in
     record {
-      comes = c.trees_are_gathered.ensures.starts (trees_in u r cs) c.args.boxes c.finish.result
+      comes = c.trees_are_gathered.ensures.starts (trees_in u r cs) c.args.options.boxes
+          c.finish.result
           (inv.ends c.finish.result (subst (λ xs. EndsAs w (trees_in u r xs) c.finish.result)
           (sym (drop_all cs i (omega (arith, c.loop-case-test.false))))
           (subst (EndsAs w []) (sym c.finish.ensures)

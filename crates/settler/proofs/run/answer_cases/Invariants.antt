@@ -13,9 +13,11 @@ invariant-loop-case g l = record {
   -- what the cases that are left come to behind what was seen, all come to
   ends :
       (found : Outcome)
-      → EndsAs l.gathered (trees_in l.fn.universe l.rounds (drop l.case-index l.cases)) found
-      → EndsAs (nothing_seen l.boxes) (trees_in l.fn.universe l.rounds l.cases) found;
-  limit : l.gathered.limit ≡ l.boxes;
+      → EndsAs l.gathered (trees_in l.fn.universe l.options.rounds (drop l.case-index l.cases))
+      found
+      → EndsAs (nothing_seen l.options.boxes) (trees_in l.fn.universe l.options.rounds l.cases)
+      found;
+  limit : l.gathered.limit ≡ l.options.boxes;
   few : l.gathered.cases ≤ l.case-index;
   room : l.gathered.boxes ≤ l.gathered.limit;
   universe : (before : List Claim) × IsUniverse l.script before l.universe;

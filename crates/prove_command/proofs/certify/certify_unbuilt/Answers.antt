@@ -1,4 +1,0 @@
-use Rattle.prove_command.proofs.certify.certify_unbuilt.Goals as goal
-
-pub returns : goal.returns
-returns c = λ o. record { other = λ e. cc e; prints = c.in_ok-lines.ensures o; done = λ h. h }
