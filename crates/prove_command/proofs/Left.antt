@@ -177,7 +177,7 @@ quiet_cause w (Err e) done = absurd (done tt)
 module _ {D E : Type 0} (folder : Ghosts D) (o : Options) (text : Bytes) (cert : Option Bytes) where
   -- no proof is claimed
   pub spared_by : (at : D) (c : Certified) → IsSpared o text c
-      → IsCertifiedBy {D} {E} folder o text cert at at (Ok c)
+      → IsCertifiedBy {D = D} {E = E} folder o text cert at at (Ok c)
   spared_by at c h = record {
     made = is_spared o text cert (folder.told at) (folder.told at) c h.done (λ n. refl) h.prints
         (λ e. absurd (h.other e));
@@ -196,27 +196,30 @@ module _ {D E : Type 0} (folder : Ghosts D) (o : Options) (text : Bytes) (cert :
   }
 
 -- a proved script's certificate is written, where it is asked for
-module _ {D E : Type 0} (folder : Ghosts D) (o : Options) (s : View) (lines : Bytes)
+module _ {D : Type 0} (folder : Ghosts D) (o : Options) (s : View) (lines : Bytes)
     (given : IsAnsweredWith o s lines) (old new : D) where
   made_by : (cert : Option Bytes) (c : Certified) → c.status ≡ status.Answered
       → c.lines.items ≡ lines → IsWrittenBy folder o s cert old new c.written
       → IsCertified o s.text cert (folder.told old) (folder.told new) c
-  made_by None c answered same h =
+  made_by None c told same h =
       is_spared o s.text None (folder.told old) (folder.told new) c
       (λ stopped. h.named stopped refl) (λ n. h.others n (λ e. cc e))
       (subst (λ (ms : Bytes). ProvePrints o s.text c.status ms) (sym same)
-      (subst (λ t. ProvePrints o s.text t lines) (sym answered) given.0))
+      (subst (λ t. ProvePrints o s.text t lines) (sym told) given.0))
       (λ _ d. refl)
-  made_by (Some name) c answered same h =
+  made_by (Some name) c told same h =
       is_certified o s lines given c (Some name) name (folder.told old) (folder.told new)
-      answered same refl (h.ok name refl) (h.err name refl)
+      told same refl (h.ok name refl) (h.err name refl)
 
-  pub certified_by : (cert : Option Bytes) (c : Certified) → c.status ≡ status.Answered
-      → c.lines.items ≡ lines → IsWrittenBy folder o s cert old new c.written
-      → IsCertifiedBy {D} {E} folder o s.text cert old new (Ok c)
-  certified_by cert c answered same h = record {
-    made = made_by cert c answered same h;
-    others = h.others;
-    cause = h.cause;
-    still = tt;
-  }
+-- what is certified then
+pub certified_by : {D E : Type 0} (folder : Ghosts D) (o : Options) (s : View) (lines : Bytes)
+    (given : IsAnsweredWith o s lines) (old new : D) (cert : Option Bytes) (c : Certified)
+    → c.status ≡ status.Answered → c.lines.items ≡ lines
+    → IsWrittenBy folder o s cert old new c.written
+    → IsCertifiedBy {D = D} {E = E} folder o s.text cert old new (Ok c)
+certified_by folder o s lines given old new cert c told same h = record {
+  made = made_by folder o s lines given old new cert c told same h;
+  others = h.others;
+  cause = h.cause;
+  still = tt;
+}

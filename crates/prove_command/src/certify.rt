@@ -59,7 +59,7 @@ fn certify_job<F: Folder, G: Gate, R: Threads + Wait + Sync>(
     cert: Option<&str>,
     gate: &G,
 ) -> Result<Certified, AllocError>
-    requires { IsJob job.old }
+    requires job { IsJob job.old }
     ensures { IsCertifiedBy F.Folder (options_from job.old.options) job.old.script.now.text
         (name_of cert.entry) folder.old folder.new result }
 {

@@ -45,7 +45,7 @@ pub write_case-requires-clause-number : goal.write_case-requires-clause-number
 write_case-requires-clause-number g c =
     let l = c.loop-number-test.true in
     let same = ap length c.loop-number.invariant.kept.cases in
-    let count = c.len.ensures in
+    let count = c.len-number-end.ensures in
     let long = c.args.job.now.cases.ok.0 in
     omega (arith, l, same, count, long)
 
@@ -106,7 +106,7 @@ returns-clause-ok g c = λ t lines items stands.
     let h = c.loop-number.invariant.done t lines items stands in
     let many = as_many s o.depth cs c.args.job.now.cases.items c.requires.job.cases in
     let done = c.loop-number-test.false in
-    let count = c.len.ensures in
+    let count = c.len-number-end.ensures in
     let long = c.args.job.now.cases.ok.0 in (
       h.0,
       h.1,

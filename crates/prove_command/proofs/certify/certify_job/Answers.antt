@@ -35,7 +35,7 @@ write_asked-written-requires-clause-proved g c =
     (λ s a. IsProvedWith s a.rounds a.depth) (
       old.options.boxes,
       c.in-Proved.shown,
-      c.requires.allowed.boxes.1,
+      c.requires.job.allowed.boxes.1,
       (c.in-Proved.field-0, found.proved),
     )
 

@@ -6,8 +6,8 @@ use Rattle.prove_command.specs.Certified.{IsCertifiedBy, name_of}
 use Rattle.prove_command.proofs.Left.{spared_by}
 use Rattle.prove_command.proofs.certify.certify_script.Goals as goal
 
-pub certify_job-requires : goal.certify_job-requires
-certify_job-requires g c κs within = c.in-Ok.ensures.job
+pub certify_job-requires-clause-job : goal.certify_job-requires-clause-job
+certify_job-requires-clause-job g c κs within = c.in-Ok.ensures.job
 
 pub unbuilt_line-requires : goal.unbuilt_line-requires
 unbuilt_line-requires g c = λ e. c.in-Err.ensures.many (ap Err e)
