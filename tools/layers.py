@@ -6,9 +6,10 @@ Use, in the repository:   python3 tools/layers.py [--write]
 crates.txt has the crates by layer: a line `# name` begins one, the lowest stands first. A crate
 stands on crates of earlier lines alone. The list has the layers from the top, each with the layers
 that it stands on and its crates, and of each crate the first sentence of its README. Ends with 1,
-and prints a line for each fault: a crate stands in no layer, or above one that it stands on; the
-list isn't that of crates.txt and the READMEs. Else it prints nothing.
-  --write   puts the list into docs/DESIGN.md
+and prints a line for each fault: a crate stands in no layer, or above one that it stands on; it has
+no README whose first paragraph has a full stop; the list isn't that of crates.txt and the READMEs.
+Else it prints nothing.
+  --write   puts the list into docs/DESIGN.md, if each crate has a sentence
 """
 import os
 import re
@@ -43,12 +44,14 @@ def layers():
 
 
 def purpose(name):
-    """What a crate is for: the first sentence of its README."""
-    _, paragraph, *_ = read(f"{TOP}/crates/{name}/README.md").split("\n\n")
-    return re.match(r"(?s)(.*?\.)(\s|$)", paragraph + "\n")[1].replace("\n", " ")
+    """What a crate is for: the first sentence of its README, or None if it has none."""
+    file = f"{TOP}/crates/{name}/README.md"
+    _, *paragraphs = (read(file) if os.path.exists(file) else "").split("\n\n")
+    found = re.match(r"(?s)(.*?\.)\s", paragraphs[0] + "\n") if paragraphs else None
+    return found and found[1].replace("\n", " ")
 
 
-def picture(names, crates):
+def picture(names, crates, purposes):
     """The list of the layers, the highest first."""
     for number in range(len(names), 0, -1):
         inside = [name for name, (layer, _) in crates.items() if layer == number]
@@ -59,7 +62,7 @@ def picture(names, crates):
         yield ""
         for name in inside:
             yield from textwrap.wrap(
-                f"- [`{name}`](../crates/{name}/README.md): {purpose(name)}", 100,
+                f"- [`{name}`](../crates/{name}/README.md): {purposes[name]}", 100,
                 subsequent_indent="  ", break_long_words=False, break_on_hyphens=False)
         yield ""
 
@@ -76,15 +79,19 @@ def main(words):
         faults += [f"crates.txt: {name} stands on {it}, which comes behind it"
                    for it in listed if it in crates and it not in before]
         before.add(name)
-    text = read(DESIGN)
-    wanted = "".join(f"{line}\n" for line in picture(names, crates))
+    purposes = {name: purpose(name) for name in crates}
+    faults += [f"crates/{name}/README.md: has no first paragraph with a full stop, so "
+               "docs/DESIGN.md has no sentence of it" for name, it in purposes.items() if not it]
+    text, wanted = read(DESIGN), None
+    if all(purposes.values()):
+        wanted = "".join(f"{line}\n" for line in picture(names, crates, purposes))
     found = PICTURE.search(text)
     if not found:
         faults.append("docs/DESIGN.md: has no lines <!-- layers --> and <!-- end of layers -->")
-    elif words == ["--write"]:
+    elif wanted and words == ["--write"]:
         with open(DESIGN, "w", encoding="utf-8") as it:
             it.write(text[: found.start()] + wanted + text[found.end() :])
-    elif found[0] != wanted:
+    elif wanted and found[0] != wanted:
         faults.append("docs/DESIGN.md: its layers aren't those of crates.txt and READMEs: python3 "
                       "tools/layers.py --write puts them there")
     for it in faults:
