@@ -1,12 +1,13 @@
-"""Holds the reference to rows of the pages, and to what each limit is and one past it."""
+"""Holds the reference to examples of the pages, and to what each limit is and one past it."""
 import os
 import re
 import sys
 import unittest
 
 TOP = os.path.dirname(os.path.dirname(os.path.dirname(os.path.abspath(__file__))))
-sys.path.insert(0, TOP)
+sys.path[:0] = [TOP, os.path.join(TOP, "tools")]
 
+import page_rows  # noqa: E402
 from reference import certificate, grid, literal, parser, polynomial, rounding  # noqa: E402
 from reference.commands import MemFolder, Program, made_script  # noqa: E402
 from reference.facts import NONE, VOID, meet  # noqa: E402
@@ -47,18 +48,8 @@ def proved(script, *options):
 
 def rows_of(page, *heads):
     """The rows of the tables of a page that have these heads, their cells without the marks."""
-    with open(os.path.join(TOP, "docs", page), encoding="utf-8") as file:
-        lines = file.read().splitlines()
-    found, inside = [], False
-    for line in lines:
-        cells = [cell.strip() for cell in re.split(r"(?<!\\)\|", line)[1:-1]]
-        if tuple(cells) == heads:
-            inside = True
-        elif not line.startswith("|"):
-            inside = False
-        elif inside and not set(line) <= set("|-"):
-            found.append([re.findall(r"`([^`]*)`", cell.replace("\\|", "|")) for cell in cells])
-    return found
+    return [[page_rows.quoted(cell) for cell in row]
+            for row in page_rows.table(page_rows.read(page), *heads)]
 
 
 class Rows(unittest.TestCase):
@@ -82,8 +73,7 @@ class Rows(unittest.TestCase):
     def test_faults_of_programs(self):
         rows = rows_of("FORMATS.md", "Fault", "When it comes, and its byte", "Example")
         self.assertGreaterEqual(len(rows), 9)
-        with open(os.path.join(TOP, "docs", "FORMATS.md"), encoding="utf-8") as file:
-            page = file.read()
+        page = page_rows.read("FORMATS.md")
         for (kind, *_), _, (text, *_) in rows:
             at = re.search(re.escape("`%s`: at " % text) + r"(\d+) \|", page)
             if at:

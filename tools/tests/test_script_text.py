@@ -16,6 +16,7 @@ TOP = os.path.dirname(os.path.dirname(os.path.dirname(os.path.abspath(__file__))
 sys.path.insert(0, os.path.join(TOP, "tools"))
 sys.dont_write_bytecode = True
 import assistants as shared  # noqa: E402
+import page_rows  # noqa: E402
 from script_text import Fault, Script, literal_value, rounded  # noqa: E402
 from script_writing import Writer  # noqa: E402
 
@@ -24,16 +25,6 @@ SIGNS = (
     "{ } ( ) [ ] , ; = + - * / | < > ? $ ~ @ <= >= <> -> -/ /\\ \\/ ! . ^ in not fixed int fma "
     "float sqrt FIX dn ne x y q 0 1 2.5 1b-3 0x1.8p1 12a 1e3"
 ).split()
-
-
-def page(name):
-    with open(os.path.join(TOP, "docs", name), encoding="utf-8") as file:
-        return file.read()
-
-
-def cells(line):
-    """The cells of a table's row; `\\|` is a bar inside a cell."""
-    return [cell.replace("\0", "|").strip() for cell in line.replace("\\|", "\0").split("|")[1:-1]]
 
 
 def placed(text):
@@ -49,20 +40,14 @@ class Rows(unittest.TestCase):
     """The examples of docs/FORMATS.md."""
 
     def setUp(self):
-        self.sections = dict(
-            part.partition("\n")[::2] for part in page("FORMATS.md").split("\n## ")[1:]
-        )
+        self.page = page_rows.read("FORMATS.md")
 
     def test_answers(self):
-        rows = [
-            cells(line)
-            for line in self.sections["What is answered"].splitlines()
-            if line.startswith("| `") and "{" in line
-        ]
+        rows = page_rows.table(self.page, "Script", "Lines")
         self.assertGreater(len(rows), 10)
         for script, lines in rows:
             read = Script(script.strip("`"))
-            shown = re.findall(r"`([^`]*)`", lines)
+            shown = page_rows.quoted(lines)
             answers = [line for line in shown if " in " in line or "unproved" in line]
             if "unproved" not in lines:
                 self.assertEqual(len(read.goals), len(answers), script)
@@ -70,11 +55,8 @@ class Rows(unittest.TestCase):
 
     def test_refusals(self):
         count = 0
-        for line in self.sections["Refusals"].splitlines():
-            row = cells(line) if line.startswith("| `") else []
-            if len(row) != 3:
-                continue
-            for script, at in re.findall(r"`(\{[^`]*)`: at (\d+)", row[2].replace("\\|", "|")):
+        for row in page_rows.table(self.page, "Kind", "When it comes, and its byte", "Example"):
+            for script, at in re.findall(r"`(\{[^`]*)`: at (\d+)", row[2]):
                 found = placed(script)
                 if row[0] in ("`BadToken`", "`Unexpected`", "`UnsupportedOperator`"):
                     self.assertEqual(found, int(at), script)
@@ -86,8 +68,8 @@ class Rows(unittest.TestCase):
     def test_grammar(self):
         """Each form of the grammar's table is read: expressions as goals, the rest in its place."""
         name = ""
-        for line in self.sections["Grammar"].splitlines():
-            row = cells(line) if line.startswith("| ") else []
+        for line in page_rows.section(self.page, "Grammar").splitlines():
+            row = page_rows.cells(line)
             if len(row) != 3 or not row[2].startswith("`"):
                 continue
             example, name = row[2].strip("`"), row[0] or name
@@ -214,7 +196,7 @@ class Texts(unittest.TestCase):
         chance = random.Random(7)
         seeds = [
             text
-            for text in re.findall(r"`([^`\n]*\{[^`\n]*)`", page("FORMATS.md"))
+            for text in re.findall(r"`([^`\n]*\{[^`\n]*)`", page_rows.read("FORMATS.md"))
             if placed(text) is None
         ]
         self.assertGreater(len(seeds), 15)
