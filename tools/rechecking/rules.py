@@ -1,4 +1,4 @@
-"""Facts, and what each numbered rule gives: docs/FORMATS.md, "Facts"; docs/RULES.md, the table.
+"""Facts, and what each numbered rule gives: docs/FORMATS.md, "Facts"; docs/RULES.md, "The rules".
 
 The value of a BND, ABS or REL fact is an interval, or NONE of a REL whose sides are both 0; of a
 FIX fact it is the power of two, and of NZR and VOID it is True.

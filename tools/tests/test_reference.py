@@ -234,9 +234,7 @@ class Answers(unittest.TestCase):
                 ("{ x in [1,2] /\\ y in [2,3] -> y / x * x in ? } y / x * x -> y;",
                  "y / x * x in [1b1, 3]")):
             self.assertEqual(proved(script), (0, line + "\n"))
-        self.assertEqual(len(NUMBERS), len(rows_of(
-            "RULES.md", "No.", "Words", "Gappa's name", "Premises", "Conclusion",
-            "Side condition", "Definition", "Call")))
+        self.assertEqual(NUMBERS, [it.number for it in page_rows.rules(page_rows.read("RULES.md"))])
 
     def test_the_universe(self):
         likes = "{ a in ? }" + "".join(" a ~ b%d;" % k for k in range(1, 32))
