@@ -1,7 +1,7 @@
 """What pages of docs/ have in rows and entries, as the tests read it.
 
-`table` has the rows of a page's tables, and `rules` the rules of docs/RULES.md. A row of a table
-whose first cell is empty goes on with the row before it.
+`table` has the rows of a page's tables, `listed` the entries of its lists, and `rules` the rules of
+docs/RULES.md. A row of a table whose first cell is empty goes on with the row before it.
 """
 import os
 import re
@@ -46,6 +46,11 @@ def table(text, *heads):
         elif inside:
             found[-1] = [" ".join(filter(None, both)) for both in zip(found[-1], row)]
     return found
+
+
+def listed(text):
+    """The entries of the lists `- ..`, each in one line."""
+    return [" ".join(it.split()) for it in re.findall(r"^- (.*(?:\n  .*)*)", text, re.M)]
 
 
 def quoted(text):

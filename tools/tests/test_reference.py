@@ -63,11 +63,14 @@ class Rows(unittest.TestCase):
             self.assertEqual(proved(script), (status, "".join(x + "\n" for x in lines)), script)
 
     def test_points(self):
-        rows = rows_of("FORMATS.md", "Script", "Point", "Lines")
-        self.assertGreaterEqual(len(rows), 4)
-        for (script,), point, lines in rows:
+        section = page_rows.section(page_rows.read("FORMATS.md"), "Points")
+        entries = [it for it in page_rows.listed(section) if it.startswith("`")]
+        self.assertGreaterEqual(len(entries), 4)
+        for entry in entries:
+            script, *words = page_rows.quoted(entry.replace("at the empty text", "at ``"))
+            point, *lines = words
             status = {"too": 11, "point:": 10}.get(lines[0].split()[0], 0)
-            self.assertEqual(ran(["at", "s", "p"], {"s": script, "p": (point or [""])[0]})[:2],
+            self.assertEqual(ran(["at", "s", "p"], {"s": script, "p": point})[:2],
                              (status, "".join(x + "\n" for x in lines)), script)
 
     def test_faults_of_programs(self):

@@ -132,9 +132,10 @@ class Reading(unittest.TestCase):
             worse = text.replace("gives  VOID\n", "gives  VOID\n        %s\n" % line)
             self.assertRaises(ValueError, page_rows.rules, worse)
 
-    def test_tables(self):
+    def test_tables_and_lists(self):
         text = "| A | B |\n|---|---|\n| `x` | `1`, |\n| | `\\|` |\n| y | 2 |\n\n| A |\n| z |\n"
         self.assertEqual(page_rows.table(text, "A", "B"), [["`x`", "`1`, `|`"], ["y", "2"]])
+        self.assertEqual(page_rows.listed("a\n- b\n  c\n- d\n\ne\n"), ["b c", "d"])
 
 
 if __name__ == "__main__":
