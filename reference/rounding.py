@@ -1,6 +1,6 @@
 """The eleven directions of rounding, exact on fractions and on grid numbers.
 
-docs/FORMATS.md, "What a script says"; docs/RULES.md, the rows 41 to 44 and "Notes", "Places".
+docs/FORMATS.md, "What a script says"; docs/RULES.md, the rules 41 to 44 and "Notes", "Exponents".
 """
 
 from __future__ import annotations

@@ -1,6 +1,6 @@
-"""The slots that rules take: one function for each row of docs/RULES.md's table.
+"""The slots that rules take: one function for each rule of docs/RULES.md.
 
-`shape_N(v, p, t)` raises `Shape` if the premises' slots p and the wanted slot t don't fit row N.
+`shape_N(v, p, t)` raises `Shape` if the premises' slots p and the wanted slot t don't fit rule N.
 It answers what `value_N` reads off the nodes. A wanted slot of VOID fits each rule that can give
 VOID.
 """
@@ -82,7 +82,7 @@ def _binary(v: View, p: Slots, t: Slot, kind: str, premise: str, tags: Tuple[str
 
 
 def shape_1(v: View, p: Slots, t: Slot) -> literal.Literal:
-    """Row 1: of nothing comes BND(c, [down c, up c])."""
+    """Rule 1: of nothing comes BND(c, [down c, up c])."""
     x = _slot(v, t, "B")
     lit = v.parts(x, "lit")
     _need(p == ())
@@ -90,68 +90,68 @@ def shape_1(v: View, p: Slots, t: Slot) -> literal.Literal:
 
 
 def shape_2(v: View, p: Slots, t: Slot) -> None:
-    """Row 2: of BND(a, I) comes BND(-a, -I)."""
+    """Rule 2: of BND(a, I) comes BND(-a, -I)."""
     _unary("neg")(v, p, t, "B", "B")
 
 
 def shape_3(v: View, p: Slots, t: Slot) -> None:
-    """Row 3: of BND(a, I), BND(b, J) comes BND(a + b, I + J)."""
+    """Rule 3: of BND(a, I), BND(b, J) comes BND(a + b, I + J)."""
     _binary(v, p, t, "B", "B", ("add",))
 
 
 def shape_4(v: View, p: Slots, t: Slot) -> None:
-    """Row 4: of BND(a, I), BND(b, J) comes BND(a - b, I - J)."""
+    """Rule 4: of BND(a, I), BND(b, J) comes BND(a - b, I - J)."""
     _binary(v, p, t, "B", "B", ("sub",))
 
 
 def shape_5(v: View, p: Slots, t: Slot) -> None:
-    """Row 5: of BND(x) comes BND(x - x, [0, 0])."""
+    """Rule 5: of BND(x) comes BND(x - x, [0, 0])."""
     a, b = v.parts(_slot(v, t, "B"), "sub")
     _need(a == b and p == (("B", a),))
 
 
 def shape_6(v: View, p: Slots, t: Slot) -> None:
-    """Row 6: of BND(a, I), BND(b, J) comes BND(a * b, I * J)."""
+    """Rule 6: of BND(a, I), BND(b, J) comes BND(a * b, I * J)."""
     _binary(v, p, t, "B", "B", ("mul",))
 
 
 def shape_7(v: View, p: Slots, t: Slot) -> None:
-    """Row 7: of ABS(x, I) comes BND(x * x, I * I)."""
+    """Rule 7: of ABS(x, I) comes BND(x * x, I * I)."""
     a, b = v.parts(_slot(v, t, "B"), "mul")
     _need(a == b and p == (("A", a),))
 
 
 def shape_8(v: View, p: Slots, t: Slot) -> None:
-    """Row 8: of BND(a, I), BND(b, J) comes BND(a / b, I / J)."""
+    """Rule 8: of BND(a, I), BND(b, J) comes BND(a / b, I / J)."""
     _binary(v, p, t, "B", "B", ("div",))
 
 
 def shape_9(v: View, p: Slots, t: Slot) -> None:
-    """Row 9: of BND(a), NZR(b) comes BND(a / b, whole line)."""
+    """Rule 9: of BND(a), NZR(b) comes BND(a / b, whole line)."""
     a, b = v.parts(_slot(v, t, "B"), "div")
     _need(p == (("B", a), ("N", b)))
 
 
 def shape_10(v: View, p: Slots, t: Slot) -> None:
-    """Row 10: of NZR(x) comes BND(x / x, [1, 1])."""
+    """Rule 10: of NZR(x) comes BND(x / x, [1, 1])."""
     a, b = v.parts(_slot(v, t, "B"), "div")
     _need(a == b and p == (("N", a),))
 
 
 def shape_11(v: View, p: Slots, t: Slot) -> None:
-    """Row 11: of BND(x, I) comes ABS(x, abs I)."""
+    """Rule 11: of BND(x, I) comes ABS(x, abs I)."""
     x = _slot(v, t, "A")
     _need(p == (("B", x),))
 
 
 def shape_12(v: View, p: Slots, t: Slot) -> None:
-    """Row 12: of ABS(x, [p, q]) comes BND(x, [-q, q])."""
+    """Rule 12: of ABS(x, [p, q]) comes BND(x, [-q, q])."""
     x = _slot(v, t, "B")
     _need(p == (("A", x),))
 
 
 def shape_13(v: View, p: Slots, t: Slot) -> None:
-    """Row 13: of BND(x, I), ABS(x, [p, q]) comes BND(x, [p, q]); BND(x, [-q, -p]); VOID."""
+    """Rule 13: of BND(x, I), ABS(x, [p, q]) comes BND(x, [p, q]); BND(x, [-q, -p]); VOID."""
     _need(len(p) == 2)
     x = _slot(v, p[0], "B")
     _need(p[1] == ("A", x))
@@ -159,84 +159,84 @@ def shape_13(v: View, p: Slots, t: Slot) -> None:
 
 
 def shape_14(v: View, p: Slots, t: Slot) -> None:
-    """Row 14: of ABS(x, I) comes BND(abs x, I)."""
+    """Rule 14: of ABS(x, I) comes BND(abs x, I)."""
     (x,) = v.parts(_slot(v, t, "B"), "abs")
     _need(p == (("A", x),))
 
 
 def shape_15(v: View, p: Slots, t: Slot) -> None:
-    """Row 15: of BND(abs x, I) comes ABS(x, I); VOID."""
+    """Rule 15: of BND(abs x, I) comes ABS(x, I); VOID."""
     _need(len(p) == 1)
     (x,) = v.parts(_slot(v, p[0], "B"), "abs")
     _need(t == VOID_SLOT or t == ("A", x))
 
 
 def shape_16(v: View, p: Slots, t: Slot) -> None:
-    """Row 16: of ABS(a, I) comes ABS(-a, I)."""
+    """Rule 16: of ABS(a, I) comes ABS(-a, I)."""
     _unary("neg")(v, p, t, "A", "A")
 
 
 def shape_17(v: View, p: Slots, t: Slot) -> None:
-    """Row 17: of ABS(a, I), ABS(b, J) comes ABS(a * b, I * J)."""
+    """Rule 17: of ABS(a, I), ABS(b, J) comes ABS(a * b, I * J)."""
     _binary(v, p, t, "A", "A", ("mul",))
 
 
 def shape_18(v: View, p: Slots, t: Slot) -> None:
-    """Row 18: of ABS(a, I), ABS(b, J) comes ABS(a / b, I / J)."""
+    """Rule 18: of ABS(a, I), ABS(b, J) comes ABS(a / b, I / J)."""
     _binary(v, p, t, "A", "A", ("div",))
 
 
 def shape_19(v: View, p: Slots, t: Slot) -> None:
-    """Row 19: of ABS(a, [p, q]), ABS(b, [r, s]) comes ABS of a + b and of a - b, [max(0, p - s, r -
-    q), q + s].
+    """Rule 19: of ABS(a, [p, q]), ABS(b, [r, s]) comes ABS of a + b and of a - b, [max(0, p - s,
+    r - q), q + s].
     """
     _binary(v, p, t, "A", "A", ("add", "sub"))
 
 
 def shape_21(v: View, p: Slots, t: Slot) -> literal.Literal:
-    """Row 21: of nothing comes FIX(c, k)."""
+    """Rule 21: of nothing comes FIX(c, k)."""
     lit = v.parts(_slot(v, t, "F"), "lit")
     _need(p == ())
     return lit
 
 
 def shape_22(v: View, p: Slots, t: Slot) -> None:
-    """Row 22: of FIX(a, k) comes FIX(-a, k)."""
+    """Rule 22: of FIX(a, k) comes FIX(-a, k)."""
     _unary("neg")(v, p, t, "F", "F")
 
 
 def shape_23(v: View, p: Slots, t: Slot) -> None:
-    """Row 23: of FIX(a, k), FIX(b, n) comes FIX of a + b and of a - b, the lesser of k and n."""
+    """Rule 23: of FIX(a, k), FIX(b, n) comes FIX of a + b and of a - b, the lesser of k and n."""
     _binary(v, p, t, "F", "F", ("add", "sub"))
 
 
 def shape_24(v: View, p: Slots, t: Slot) -> None:
-    """Row 24: of FIX(a, k), FIX(b, n) comes FIX(a * b, k + n)."""
+    """Rule 24: of FIX(a, k), FIX(b, n) comes FIX(a * b, k + n)."""
     _binary(v, p, t, "F", "F", ("mul",))
 
 
 def shape_25(v: View, p: Slots, t: Slot) -> Rounding:
-    """Row 25: of BND(x) comes FIX(R(x), l)."""
+    """Rule 25: of BND(x) comes FIX(R(x), l)."""
     d, lsb, x = v.parts(_slot(v, t, "F"), "rnd")
     _need(p == (("B", x),))
     return (d, lsb)
 
 
 def shape_26(v: View, p: Slots, t: Slot) -> Rounding:
-    """Row 26: of FIX(x, k) comes FIX(R(x), k)."""
+    """Rule 26: of FIX(x, k) comes FIX(R(x), k)."""
     d, lsb, x = v.parts(_slot(v, t, "F"), "rnd")
     _need(p == (("F", x),))
     return (d, lsb)
 
 
 def shape_27(v: View, p: Slots, t: Slot) -> None:
-    """Row 27: of BND(x, [p, p]) comes FIX(x, k)."""
+    """Rule 27: of BND(x, [p, p]) comes FIX(x, k)."""
     x = _slot(v, t, "F")
     _need(p == (("B", x),))
 
 
 def shape_28(v: View, p: Slots, t: Slot) -> None:
-    """Row 28: of BND(x, I), FIX(x, k) comes BND(x, the least interval that holds the multiples of
+    """Rule 28: of BND(x, I), FIX(x, k) comes BND(x, the least interval that holds the multiples of
     2^k in I).
     """
     x = _slot(v, t, "B")
@@ -244,34 +244,34 @@ def shape_28(v: View, p: Slots, t: Slot) -> None:
 
 
 def shape_31(v: View, p: Slots, t: Slot) -> None:
-    """Row 31: of BND(x, I) comes NZR(x)."""
+    """Rule 31: of BND(x, I) comes NZR(x)."""
     x = _slot(v, t, "N")
     _need(p == (("B", x),))
 
 
 def shape_32(v: View, p: Slots, t: Slot) -> None:
-    """Row 32: of ABS(x, [p, q]) comes NZR(x)."""
+    """Rule 32: of ABS(x, [p, q]) comes NZR(x)."""
     x = _slot(v, t, "N")
     _need(p == (("A", x),))
 
 
 def shape_33(v: View, p: Slots, t: Slot) -> None:
-    """Row 33: of NZR(a), NZR(b) comes NZR(a * b)."""
+    """Rule 33: of NZR(a), NZR(b) comes NZR(a * b)."""
     _binary(v, p, t, "N", "N", ("mul",))
 
 
 def shape_34(v: View, p: Slots, t: Slot) -> None:
-    """Row 34: of NZR(a), NZR(b) comes NZR(a / b)."""
+    """Rule 34: of NZR(a), NZR(b) comes NZR(a / b)."""
     _binary(v, p, t, "N", "N", ("div",))
 
 
 def shape_35(v: View, p: Slots, t: Slot) -> None:
-    """Row 35: of NZR(a) comes NZR(-a)."""
+    """Rule 35: of NZR(a) comes NZR(-a)."""
     _unary("neg")(v, p, t, "N", "N")
 
 
 def shape_36(v: View, p: Slots, t: Slot) -> None:
-    """Row 36: of REL(x, y, E), NZR of one of x and y comes NZR of the other; VOID."""
+    """Rule 36: of REL(x, y, E), NZR of one of x and y comes NZR of the other; VOID."""
     _need(len(p) == 2)
     x, y = _slot(v, p[0], "R")
     n = _slot(v, p[1], "N")
@@ -282,7 +282,7 @@ def shape_36(v: View, p: Slots, t: Slot) -> None:
 
 
 def shape_41(v: View, p: Slots, t: Slot) -> Rounding:
-    """Row 41: of BND(x, [p, q]) comes BND(R(x), [R(p), R(q)]); infinite ends stay."""
+    """Rule 41: of BND(x, [p, q]) comes BND(R(x), [R(p), R(q)]); infinite ends stay."""
     d, lsb, x = v.parts(_slot(v, t, "B"), "rnd")
     _need(p == (("B", x),))
     return (d, lsb)
@@ -297,37 +297,37 @@ def _error(v: View, p: Slots, t: Slot, kind: str) -> Tuple[str, int]:
 
 
 def shape_42(v: View, p: Slots, t: Slot) -> Rounding:
-    """Row 42: of BND(x) comes BND(R(x) - x, E)."""
+    """Rule 42: of BND(x) comes BND(R(x) - x, E)."""
     return _error(v, p, t, "B")
 
 
 def shape_43(v: View, p: Slots, t: Slot) -> Rounding:
-    """Row 43: of BND(x, I) comes BND(R(x) - x)."""
+    """Rule 43: of BND(x, I) comes BND(R(x) - x)."""
     c = _error(v, p, t, "B")
     _need(c[0] in ("zr", "aw"))
     return c
 
 
 def shape_44(v: View, p: Slots, t: Slot) -> Rounding:
-    """Row 44: of FIX(x, k) comes BND(R(x) - x): [0, 0]; E of row 42 with 2^l - 2^k for each 2^l."""
+    """Rule 44: of FIX(x, k) comes BND(R(x) - x): [0, 0]; that of 42 with 2^l - 2^k for 2^l."""
     return _error(v, p, t, "F")
 
 
 def shape_51(v: View, p: Slots, t: Slot) -> None:
-    """Row 51: of BND(x) comes REL(x, x, [0, 0])."""
+    """Rule 51: of BND(x) comes REL(x, x, [0, 0])."""
     x, y = _slot(v, t, "R")
     _need(x == y and p == (("B", x),))
 
 
 def shape_52(v: View, p: Slots, t: Slot) -> None:
-    """Row 52: of BND(x - y, I), BND(y, J) comes REL(x, y, I / J)."""
+    """Rule 52: of BND(x - y, I), BND(y, J) comes REL(x, y, I / J)."""
     x, y = _slot(v, t, "R")
     _need(len(p) == 2)
     _need(v.parts(_slot(v, p[0], "B"), "sub") == (x, y) and p[1] == ("B", y))
 
 
 def shape_53(v: View, p: Slots, t: Slot) -> None:
-    """Row 53: of REL(x, y, I), BND(y, J) comes BND(x - y, J * I); of none: BND(x - y, [0, 0]),
+    """Rule 53: of REL(x, y, I), BND(y, J) comes BND(x - y, J * I); of none: BND(x - y, [0, 0]),
     VOID.
     """
     _need(len(p) == 2)
@@ -338,7 +338,7 @@ def shape_53(v: View, p: Slots, t: Slot) -> None:
 
 
 def shape_54(v: View, p: Slots, t: Slot) -> None:
-    """Row 54: of REL(x, y, I), BND(y, J) comes BND(x, J * ([1, 1] + I)); of none: BND(x, [0, 0]),
+    """Rule 54: of REL(x, y, I), BND(y, J) comes BND(x, J * ([1, 1] + I)); of none: BND(x, [0, 0]),
     VOID.
     """
     _need(len(p) == 2)
@@ -348,7 +348,7 @@ def shape_54(v: View, p: Slots, t: Slot) -> None:
 
 
 def shape_55(v: View, p: Slots, t: Slot) -> None:
-    """Row 55: of REL(x, y, I), NZR(y) comes BND(x / y, [1, 1] + I); of none: VOID."""
+    """Rule 55: of REL(x, y, I), NZR(y) comes BND(x / y, [1, 1] + I); of none: VOID."""
     _need(len(p) == 2)
     x, y = _slot(v, p[0], "R")
     _need(p[1] == ("N", y))
@@ -357,7 +357,7 @@ def shape_55(v: View, p: Slots, t: Slot) -> None:
 
 
 def shape_56(v: View, p: Slots, t: Slot) -> None:
-    """Row 56: of REL(a, c, I), REL(b, d, K) comes REL(a * b, c * d, (I + K) + I * K); none where
+    """Rule 56: of REL(a, c, I), REL(b, d, K) comes REL(a * b, c * d, (I + K) + I * K); none where
     one is none.
     """
     x, y = _slot(v, t, "R")
@@ -367,7 +367,7 @@ def shape_56(v: View, p: Slots, t: Slot) -> None:
 
 
 def shape_57(v: View, p: Slots, t: Slot) -> None:
-    """Row 57: of REL(a, c, I), REL(b, d, K), NZR(d) comes REL(a / b, c / d, ([1, 1] + I) / ([1, 1]
+    """Rule 57: of REL(a, c, I), REL(b, d, K), NZR(d) comes REL(a / b, c / d, ([1, 1] + I) / ([1, 1]
     + K) - [1, 1]); VOID where the second is none, else none where the first is.
     """
     _need(len(p) == 3)
@@ -380,7 +380,7 @@ def shape_57(v: View, p: Slots, t: Slot) -> None:
 
 
 def shape_58(v: View, p: Slots, t: Slot) -> None:
-    """Row 58: of REL(a, b, I), REL(b, c, K) comes REL(a, c, (I + K) + I * K); none where one is
+    """Rule 58: of REL(a, b, I), REL(b, c, K) comes REL(a, c, (I + K) + I * K); none where one is
     none.
     """
     x, y = _slot(v, t, "R")
@@ -391,13 +391,13 @@ def shape_58(v: View, p: Slots, t: Slot) -> None:
 
 
 def shape_59(v: View, p: Slots, t: Slot) -> None:
-    """Row 59: of REL(x, y, I) comes REL(y, x, [1, 1] / ([1, 1] + I) - [1, 1]); none of none."""
+    """Rule 59: of REL(x, y, I) comes REL(y, x, [1, 1] / ([1, 1] + I) - [1, 1]); none of none."""
     y, x = _slot(v, t, "R")
     _need(p == (("R", x, y),))
 
 
 def shape_60(v: View, p: Slots, t: Slot) -> None:
-    """Row 60: of REL(a, b, I) comes REL(-a, -b, I); none of none."""
+    """Rule 60: of REL(a, b, I) comes REL(-a, -b, I); none of none."""
     x, y = _slot(v, t, "R")
     (a,) = v.parts(x, "neg")
     (b,) = v.parts(y, "neg")
@@ -405,7 +405,7 @@ def shape_60(v: View, p: Slots, t: Slot) -> None:
 
 
 def shape_61(v: View, p: Slots, t: Slot) -> None:
-    """Row 61: of REL(a, c, I), REL(b, d, K), BND(c / (c + d), L) comes REL(a + b, c + d, I * L + K
+    """Rule 61: of REL(a, c, I), REL(b, d, K), BND(c / (c + d), L) comes REL(a + b, c + d, I * L + K
     * ([1, 1] - L)); of none, I: REL with K, VOID; of I, none: REL with I, VOID; of both: VOID.
     """
     _need(len(p) == 3)
@@ -430,19 +430,19 @@ def _difference(v: View, s: Slot) -> Tuple[int, int]:
 
 
 def shape_71(v: View, p: Slots, t: Slot) -> None:
-    """Row 71: of BND(a - c, I), BND(b - d, J) comes BND((a + b) - (c + d), I + J)."""
+    """Rule 71: of BND(a - c, I), BND(b - d, J) comes BND((a + b) - (c + d), I + J)."""
     a, b, c, d = _pairs(v, t, "add")
     _need(len(p) == 2 and _difference(v, p[0]) == (a, c) and _difference(v, p[1]) == (b, d))
 
 
 def shape_72(v: View, p: Slots, t: Slot) -> None:
-    """Row 72: of BND(a - c, I), BND(b - d, J) comes BND((a - b) - (c - d), I - J)."""
+    """Rule 72: of BND(a - c, I), BND(b - d, J) comes BND((a - b) - (c - d), I - J)."""
     a, b, c, d = _pairs(v, t, "sub")
     _need(len(p) == 2 and _difference(v, p[0]) == (a, c) and _difference(v, p[1]) == (b, d))
 
 
 def shape_73(v: View, p: Slots, t: Slot) -> None:
-    """Row 73: of BND(a, I), BND(b - d, J), BND(a - c, K), BND(d, L) comes BND(a * b - c * d, I * J
+    """Rule 73: of BND(a, I), BND(b - d, J), BND(a - c, K), BND(d, L) comes BND(a * b - c * d, I * J
     + K * L).
     """
     a, b, c, d = _pairs(v, t, "mul")
@@ -451,13 +451,13 @@ def shape_73(v: View, p: Slots, t: Slot) -> None:
 
 
 def shape_74(v: View, p: Slots, t: Slot) -> None:
-    """Row 74: of BND(a - b, I) comes BND((-a) - (-b), -I)."""
+    """Rule 74: of BND(a - b, I) comes BND((-a) - (-b), -I)."""
     a, b = _pairs(v, t, "neg")
     _need(len(p) == 1 and _difference(v, p[0]) == (a, b))
 
 
 def shape_75(v: View, p: Slots, t: Slot) -> None:
-    """Row 75: of BND(a - b, I), BND(b - c, J) comes BND(a - c, I + J)."""
+    """Rule 75: of BND(a - b, I), BND(b - c, J) comes BND(a - c, I + J)."""
     a, c = _difference(v, t)
     _need(len(p) == 2)
     a1, b1 = _difference(v, p[0])
@@ -466,7 +466,7 @@ def shape_75(v: View, p: Slots, t: Slot) -> None:
 
 
 def shape_76(v: View, p: Slots, t: Slot) -> None:
-    """Row 76: of BND(a - b, I), BND(c - b, J) comes BND(a - c, I - J)."""
+    """Rule 76: of BND(a - b, I), BND(c - b, J) comes BND(a - c, I - J)."""
     a, c = _difference(v, t)
     _need(len(p) == 2)
     a1, b1 = _difference(v, p[0])
@@ -475,7 +475,7 @@ def shape_76(v: View, p: Slots, t: Slot) -> None:
 
 
 def shape_77(v: View, p: Slots, t: Slot) -> None:
-    """Row 77: of BND(b, I), BND(a - b, J) comes BND(a, I + J)."""
+    """Rule 77: of BND(b, I), BND(a - b, J) comes BND(a, I + J)."""
     a = _slot(v, t, "B")
     _need(len(p) == 2)
     b = _slot(v, p[0], "B")
@@ -483,7 +483,7 @@ def shape_77(v: View, p: Slots, t: Slot) -> None:
 
 
 def shape_78(v: View, p: Slots, t: Slot) -> None:
-    """Row 78: of BND(a, I), BND(a - b, J) comes BND(b, I - J)."""
+    """Rule 78: of BND(a, I), BND(a - b, J) comes BND(b, I - J)."""
     b = _slot(v, t, "B")
     _need(len(p) == 2)
     a = _slot(v, p[0], "B")
@@ -491,7 +491,7 @@ def shape_78(v: View, p: Slots, t: Slot) -> None:
 
 
 def shape_80(v: View, p: Slots, t: Slot, hint: HintRow) -> Sequence[Need]:
-    """Row 80: of a BND, ABS, FIX or NZR fact on b; NZR of each divisor of the row, by rising
+    """Rule 80: of a BND, ABS, FIX or NZR fact on b; NZR of each divisor of the row, by rising
     number; one fact for each constraint, in their order comes the same fact on a.
     """
     _need(t[0] in "BAFN" and t[1:] == (hint.left,))
@@ -503,21 +503,21 @@ def shape_80(v: View, p: Slots, t: Slot, hint: HintRow) -> Sequence[Need]:
 
 
 def shape_90(v: View, p: Slots, t: Slot) -> None:
-    """Row 90: of BND(x, I), FIX(x, k) comes VOID."""
+    """Rule 90: of BND(x, I), FIX(x, k) comes VOID."""
     _need(t == VOID_SLOT and len(p) == 2)
     x = _slot(v, p[0], "B")
     _need(p[1] == ("F", x))
 
 
 def shape_91(v: View, p: Slots, t: Slot) -> None:
-    """Row 91: of BND(x, [0, 0]), NZR(x) comes VOID."""
+    """Rule 91: of BND(x, [0, 0]), NZR(x) comes VOID."""
     _need(t == VOID_SLOT and len(p) == 2)
     x = _slot(v, p[0], "B")
     _need(p[1] == ("N", x))
 
 
 def shape_92(v: View, p: Slots, t: Slot) -> None:
-    """Row 92: of REL(x, y, nothing), NZR(y) comes VOID."""
+    """Rule 92: of REL(x, y, nothing), NZR(y) comes VOID."""
     _need(t == VOID_SLOT and len(p) == 2)
     x, y = _slot(v, p[0], "R")
     _need(p[1] == ("N", y))

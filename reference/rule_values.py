@@ -1,4 +1,4 @@
-"""The values that rules give: one function for each row of docs/RULES.md's table.
+"""The values that rules give: one function for each rule of docs/RULES.md.
 
 `value_N(c, ..)` is the conclusion's value by the premises' values. c is what the rule reads off
 the nodes: a literal, a rounding's direction and lsb, the constraints of a hint; else None. A
@@ -40,68 +40,68 @@ def clip_fix(k: int) -> Optional[int]:
 
 
 def value_1(c: literal.Literal) -> Optional[Value]:
-    """Row 1: a literal."""
+    """Rule 1: a literal."""
     q = literal.value(c)
     return (down_fraction(q), up_fraction(q))
 
 
 def value_2(c: None, i: Interval) -> Optional[Value]:
-    """Row 2: a negation."""
+    """Rule 2: a negation."""
     return neg(i)
 
 
 def value_3(c: None, i: Interval, j: Interval) -> Optional[Value]:
-    """Row 3: a sum."""
+    """Rule 3: a sum."""
     return add(i, j)
 
 
 def value_4(c: None, i: Interval, j: Interval) -> Optional[Value]:
-    """Row 4: a difference."""
+    """Rule 4: a difference."""
     return sub(i, j)
 
 
 def value_5(c: None, i: Interval) -> Optional[Value]:
-    """Row 5: a difference with itself."""
+    """Rule 5: a difference with itself."""
     return ZERO
 
 
 def value_6(c: None, i: Interval, j: Interval) -> Optional[Value]:
-    """Row 6: a product."""
+    """Rule 6: a product."""
     return mul(i, j)
 
 
 def value_7(c: None, i: Interval) -> Optional[Value]:
-    """Row 7: a square."""
+    """Rule 7: a square."""
     return mul(i, i)
 
 
 def value_8(c: None, i: Interval, j: Interval) -> Optional[Value]:
-    """Row 8: a quotient."""
+    """Rule 8: a quotient."""
     return div(i, j)
 
 
 def value_9(c: None, i: Interval, n: bool) -> Optional[Value]:
-    """Row 9: a quotient by what isn't 0."""
+    """Rule 9: a quotient by what isn't 0."""
     return WHOLE
 
 
 def value_10(c: None, n: bool) -> Optional[Value]:
-    """Row 10: a quotient by itself."""
+    """Rule 10: a quotient by itself."""
     return UNIT
 
 
 def value_11(c: None, i: Interval) -> Optional[Value]:
-    """Row 11: the size of a value."""
+    """Rule 11: the size of a value."""
     return absolute(i)
 
 
 def value_12(c: None, i: Interval) -> Optional[Value]:
-    """Row 12: a value by its size."""
+    """Rule 12: a value by its size."""
     return (-i[1], i[1])
 
 
 def value_13(c: None, i: Interval, a: Interval) -> Optional[Value]:
-    """Row 13: a value by its size and sign."""
+    """Rule 13: a value by its size and sign."""
     p, q = a
     above = i[0] > -p
     below = i[1] < p
@@ -115,35 +115,35 @@ def value_13(c: None, i: Interval, a: Interval) -> Optional[Value]:
 
 
 def value_14(c: None, i: Interval) -> Optional[Value]:
-    """Row 14: an absolute value."""
+    """Rule 14: an absolute value."""
     return i
 
 
 def value_15(c: None, i: Interval) -> Optional[Value]:
-    """Row 15: the size of what stands in bars."""
+    """Rule 15: the size of what stands in bars."""
     if i[1] < 0:
         return VOIDED
     return clip_abs(i)
 
 
 def value_16(c: None, i: Interval) -> Optional[Value]:
-    """Row 16: the size of a negation."""
+    """Rule 16: the size of a negation."""
     return i
 
 
 def value_17(c: None, i: Interval, j: Interval) -> Optional[Value]:
-    """Row 17: the size of a product."""
+    """Rule 17: the size of a product."""
     return clip_abs(mul(i, j))
 
 
 def value_18(c: None, i: Interval, j: Interval) -> Optional[Value]:
-    """Row 18: the size of a quotient."""
+    """Rule 18: the size of a quotient."""
     q = div(i, j)
     return None if q is None else clip_abs(q)
 
 
 def value_19(c: None, i: Interval, j: Interval) -> Optional[Value]:
-    """Row 19: the size of a sum or difference."""
+    """Rule 19: the size of a sum or difference."""
     p, q = i
     r, s = j
     return (down(max(0, p - s, r - q)), -down(-q - s))
@@ -153,37 +153,37 @@ def value_19(c: None, i: Interval, j: Interval) -> Optional[Value]:
 
 
 def value_21(c: literal.Literal) -> Optional[Value]:
-    """Row 21: a literal is a multiple."""
+    """Rule 21: a literal is a multiple."""
     return literal.fix_of(c)
 
 
 def value_22(c: None, k: int) -> Optional[Value]:
-    """Row 22: a multiple's negation."""
+    """Rule 22: a multiple's negation."""
     return k
 
 
 def value_23(c: None, k: int, n: int) -> Optional[Value]:
-    """Row 23: a sum or difference of multiples."""
+    """Rule 23: a sum or difference of multiples."""
     return min(k, n)
 
 
 def value_24(c: None, k: int, n: int) -> Optional[Value]:
-    """Row 24: a product of multiples."""
+    """Rule 24: a product of multiples."""
     return clip_fix(k + n)
 
 
 def value_25(c: Rounding, i: Interval) -> Optional[Value]:
-    """Row 25: a rounding is a multiple."""
+    """Rule 25: a rounding is a multiple."""
     return c[1]
 
 
 def value_26(c: Rounding, k: int) -> Optional[Value]:
-    """Row 26: a rounding that changes nothing."""
+    """Rule 26: a rounding that changes nothing."""
     return k if k >= c[1] else None
 
 
 def value_27(c: None, i: Interval) -> Optional[Value]:
-    """Row 27: a number's last digit."""
+    """Rule 27: a number's last digit."""
     p, q = i
     if p != q:
         return None
@@ -191,42 +191,42 @@ def value_27(c: None, i: Interval) -> Optional[Value]:
 
 
 def value_28(c: None, i: Interval, k: int) -> Optional[Value]:
-    """Row 28: the multiples in an interval."""
+    """Rule 28: the multiples in an interval."""
     return shrink(i, k)
 
 
 def value_31(c: None, i: Interval) -> Optional[Value]:
-    """Row 31: not 0 by its bounds."""
+    """Rule 31: not 0 by its bounds."""
     return None if has_zero(i) else True
 
 
 def value_32(c: None, i: Interval) -> Optional[Value]:
-    """Row 32: not 0 by its size."""
+    """Rule 32: not 0 by its size."""
     return True if i[0] > 0 else None
 
 
 def value_33(c: None, n: bool, m: bool) -> Optional[Value]:
-    """Row 33: a product of what isn't 0."""
+    """Rule 33: a product of what isn't 0."""
     return True
 
 
 def value_34(c: None, n: bool, m: bool) -> Optional[Value]:
-    """Row 34: a quotient of what isn't 0."""
+    """Rule 34: a quotient of what isn't 0."""
     return True
 
 
 def value_35(c: None, n: bool) -> Optional[Value]:
-    """Row 35: a negation of what isn't 0."""
+    """Rule 35: a negation of what isn't 0."""
     return True
 
 
 def value_36(c: None, r: Relative, n: bool) -> Optional[Value]:
-    """Row 36: not 0 by its relative error."""
+    """Rule 36: not 0 by its relative error."""
     return VOIDED if r == NONE else True
 
 
 def value_41(c: Rounding, i: Interval) -> Optional[Value]:
-    """Row 41: a rounded value."""
+    """Rule 41: a rounded value."""
     lo, hi = i
     if lo != LOW:
         lo = round_grid(c[0], c[1], lo)
@@ -236,17 +236,17 @@ def value_41(c: Rounding, i: Interval) -> Optional[Value]:
 
 
 def value_42(c: Rounding, i: Interval) -> Optional[Value]:
-    """Row 42: a rounding's error."""
+    """Rule 42: a rounding's error."""
     return error_any(c[0], c[1])
 
 
 def value_43(c: Rounding, i: Interval) -> Optional[Value]:
-    """Row 43: the error by the sign."""
+    """Rule 43: the error by the sign."""
     return error_signed(c[0], c[1], i)
 
 
 def value_44(c: Rounding, k: int) -> Optional[Value]:
-    """Row 44: the error of a multiple."""
+    """Rule 44: the error of a multiple."""
     return error_fixed(c[0], c[1], k)
 
 
@@ -254,49 +254,49 @@ def value_44(c: Rounding, k: int) -> Optional[Value]:
 
 
 def value_51(c: None, i: Interval) -> Optional[Value]:
-    """Row 51: a value with itself."""
+    """Rule 51: a value with itself."""
     return ZERO
 
 
 def value_52(c: None, i: Interval, j: Interval) -> Optional[Value]:
-    """Row 52: a difference by the second value."""
+    """Rule 52: a difference by the second value."""
     q = div(i, j)
     return None if q is None else clip_rel(q)
 
 
 def value_53(c: None, r: Relative, j: Interval) -> Optional[Value]:
-    """Row 53: a difference by its relative error."""
+    """Rule 53: a difference by its relative error."""
     if r == NONE:
         return ZERO if has_zero(j) else VOIDED
     return mul(j, r)
 
 
 def value_54(c: None, r: Relative, j: Interval) -> Optional[Value]:
-    """Row 54: a value by its relative error."""
+    """Rule 54: a value by its relative error."""
     if r == NONE:
         return ZERO if has_zero(j) else VOIDED
     return mul(j, add(UNIT, r))
 
 
 def value_55(c: None, r: Relative, n: bool) -> Optional[Value]:
-    """Row 55: a quotient by its relative error."""
+    """Rule 55: a quotient by its relative error."""
     return VOIDED if r == NONE else add(UNIT, r)
 
 
 def _product(i: Interval, k: Interval) -> Optional[Interval]:
-    """(I + K) + I * K, of the rows 56 and 58."""
+    """(I + K) + I * K, of the rules 56 and 58."""
     return clip_rel(add(add(i, k), mul(i, k)))
 
 
 def value_56(c: None, i: Relative, k: Relative) -> Optional[Value]:
-    """Row 56: relative errors of products."""
+    """Rule 56: relative errors of products."""
     if i == NONE or k == NONE:
         return NONE
     return _product(i, k)
 
 
 def value_57(c: None, i: Relative, k: Relative, n: bool) -> Optional[Value]:
-    """Row 57: relative errors of quotients."""
+    """Rule 57: relative errors of quotients."""
     if k == NONE:
         return VOIDED
     if i == NONE:
@@ -306,12 +306,12 @@ def value_57(c: None, i: Relative, k: Relative, n: bool) -> Optional[Value]:
 
 
 def value_58(c: None, i: Relative, k: Relative) -> Optional[Value]:
-    """Row 58: relative errors in a chain."""
+    """Rule 58: relative errors in a chain."""
     return value_56(c, i, k)
 
 
 def value_59(c: None, i: Relative) -> Optional[Value]:
-    """Row 59: a relative error turned round."""
+    """Rule 59: a relative error turned round."""
     if i == NONE:
         return NONE
     q = div(UNIT, add(UNIT, i))
@@ -319,12 +319,12 @@ def value_59(c: None, i: Relative) -> Optional[Value]:
 
 
 def value_60(c: None, i: Relative) -> Optional[Value]:
-    """Row 60: relative errors of negations."""
+    """Rule 60: relative errors of negations."""
     return i
 
 
 def value_61(c: None, i: Relative, k: Relative, share: Interval) -> Optional[Value]:
-    """Row 61: relative errors of sums."""
+    """Rule 61: relative errors of sums."""
     if i == NONE and k == NONE:
         return VOIDED
     if i == NONE:
@@ -338,47 +338,47 @@ def value_61(c: None, i: Relative, k: Relative, share: Interval) -> Optional[Val
 
 
 def value_71(c: None, i: Interval, j: Interval) -> Optional[Value]:
-    """Row 71: a difference of sums."""
+    """Rule 71: a difference of sums."""
     return add(i, j)
 
 
 def value_72(c: None, i: Interval, j: Interval) -> Optional[Value]:
-    """Row 72: a difference of differences."""
+    """Rule 72: a difference of differences."""
     return sub(i, j)
 
 
 def value_73(c: None, i: Interval, j: Interval, k: Interval, n: Interval) -> Optional[Value]:
-    """Row 73: a difference of products."""
+    """Rule 73: a difference of products."""
     return add(mul(i, j), mul(k, n))
 
 
 def value_74(c: None, i: Interval) -> Optional[Value]:
-    """Row 74: a difference of negations."""
+    """Rule 74: a difference of negations."""
     return neg(i)
 
 
 def value_75(c: None, i: Interval, j: Interval) -> Optional[Value]:
-    """Row 75: a difference through a third expression."""
+    """Rule 75: a difference through a third expression."""
     return add(i, j)
 
 
 def value_76(c: None, i: Interval, j: Interval) -> Optional[Value]:
-    """Row 76: a difference against a third expression."""
+    """Rule 76: a difference against a third expression."""
     return sub(i, j)
 
 
 def value_77(c: None, i: Interval, j: Interval) -> Optional[Value]:
-    """Row 77: the first value by a difference."""
+    """Rule 77: the first value by a difference."""
     return add(i, j)
 
 
 def value_78(c: None, i: Interval, j: Interval) -> Optional[Value]:
-    """Row 78: the second value by a difference."""
+    """Rule 78: the second value by a difference."""
     return sub(i, j)
 
 
 def value_80(needs: Sequence[Need], fact: Value, *rest: Value) -> Optional[Value]:
-    """Row 80: a hint `a -> b`."""
+    """Rule 80: a hint `a -> b`."""
     if needs:
         for need, v in zip(needs, rest[len(rest) - len(needs):]):
             if not need.met(v):
@@ -387,15 +387,15 @@ def value_80(needs: Sequence[Need], fact: Value, *rest: Value) -> Optional[Value
 
 
 def value_90(c: None, i: Interval, k: int) -> Optional[Value]:
-    """Row 90: no multiple is left."""
+    """Rule 90: no multiple is left."""
     return VOIDED if shrink(i, k) is None else None
 
 
 def value_91(c: None, i: Interval, n: bool) -> Optional[Value]:
-    """Row 91: 0 and not 0."""
+    """Rule 91: 0 and not 0."""
     return VOIDED if i == ZERO else None
 
 
 def value_92(c: None, r: Relative, n: bool) -> Optional[Value]:
-    """Row 92: both 0 and not 0."""
+    """Rule 92: both 0 and not 0."""
     return VOIDED if r == NONE else None

@@ -133,7 +133,7 @@ class Examples(unittest.TestCase):
 
 
 class Pages(unittest.TestCase):
-    """Rows of docs/FORMATS.md and docs/RULES.md."""
+    """What docs/FORMATS.md and docs/RULES.md say of some certificates, scripts and numbers."""
 
     def test_certificates(self):
         wanted = 0, "x * y in [3, 5b1]\n"
