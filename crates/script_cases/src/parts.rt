@@ -1,5 +1,5 @@
 // Conjunctions and parts over one list of items.
-ghost use Rattle.std.specs.Prelude.{◌≡◌, nat_lt, ◌<◌, ◌≤◌, ◌++◌, [], Some, length, slice_get};
+ghost use Rattle.std.specs.Prelude.{◌≡◌, ◌⊎◌, nat_lt, ◌<◌, ◌≤◌, ◌++◌, [], Some, length, slice_get};
 ghost use Rattle.std.specs.Prelude.{get_or, IfOk, OnOk, OnErr};
 ghost use Rattle.std.specs.List.{AllByRecursion, flat_map};
 ghost use Rattle.script_cases.specs.Cases.{cases, case_count};
@@ -107,6 +107,8 @@ impl<T: Copy> Parts<T> {
     pub fn end_part(&mut self) -> Result<(), AllocError>
         ensures ended { OnOk result (self.new ≡ spec.behind_arrow self.old) }
         ensures kept { self.new.items ≡ self.old.items }
+        ensures refused { OnErr result
+            ((self.new ≡ self.old) ⊎ (self.new ≡ spec.behind_or self.old)) }
     {
         self.end_conjunction()?;
         self.parts.push(self.ends.len())?;
