@@ -1,12 +1,13 @@
 -- Sets and maps that hold names as borrowed texts are lists of names.
 use Rattle.std.proofs.Common.{◌≡◌, ℕ, ◌+◌, List, [], ◌∷◌, ◌++◌, map, take, Option, Some, Bool, true}
-use Rattle.std.proofs.Common.{false, not, ◌||◌, cond, refl, sym, ap, ◌∙◌, if◌then◌else◌}
-use Rattle.std.specs.List.{list_any, position_or_len, take-map}
+use Rattle.std.proofs.Common.{false, not, ◌||◌, cond, None, nat_lt, length, refl, sym, ap, ◌∙◌}
+use Rattle.std.proofs.Common.{if◌then◌else◌}
+use Rattle.std.specs.List.{list_any, position, position_or_len, take-map}
 use Rattle.std.specs.Str.{bytes_eq}
 use Rattle.std.specs.Borrow.{Bor}
 use Rattle.std.specs.HashMap.{HashMap, get_by}
 use Rattle.std.specs.Map.{lookup}
-use Rattle.std.proofs.lemmas.List.{map-append}
+use Rattle.std.proofs.lemmas.List.{length-map, map-append}
 use Rattle.indexmap.specs.IndexMap.{insert_entry}
 use Rattle.indexmap.specs.IndexSet.{insert_key}
 use Rattle.script_nodes.specs.Known.{Name, entry_of, with_entry, variables_with}
@@ -46,6 +47,14 @@ pub place_of_key : (ks : List (Bor Name)) (k : Bor Name) (names : List Name) (pl
     → map text ks ≡ names → place ≡ position_or_len (same k) ks
     → place ≡ position_or_len (bytes_eq k.now) names
 place_of_key ks k names place e h = h ∙ placed_in ks k ∙ ap (position_or_len (bytes_eq k.now)) e
+
+pub index_of_key : (ks : List (Bor Name)) (k : Bor Name) (names : List Name) (o : Option ℕ)
+    → map text ks ≡ names → o ≡ position (same k) ks → o ≡ position (bytes_eq k.now) names
+index_of_key ks k names o e h =
+    let at : position_or_len (same k) ks ≡ position_or_len (bytes_eq k.now) names =
+    placed_in ks k ∙ ap (position_or_len (bytes_eq k.now)) e in
+    let long : length ks ≡ length names = sym (length-map ks text) ∙ ap length e in
+    h ∙ (λ i. cond (nat_lt (at i) (long i)) (Some (at i)) None)
 
 pub kept_keys : (ks new : List (Bor Name)) (n : ℕ) (names : List Name) → map text ks ≡ names
     → new ≡ take n ks → map text new ≡ take n names

@@ -1,13 +1,13 @@
 -- What stands before an expression: nodes, and names with what they mean.
 use Rattle.std.specs.Prelude.{ℕ, pos, List, [], ◌∷◌, ◌++◌, Option, Some, None, if◌then◌else◌}
-use Rattle.std.specs.List.{list_any, position_or_len}
+use Rattle.std.specs.List.{list_any, position, position_or_len}
 use Rattle.std.specs.Str.{bytes_eq}
 use Rattle.fx_model.specs.declared.Direction.TheVariants.{Zr}
 use Rattle.fx_model.specs.declared.Rounding.{Rounding}
 use Rattle.fx_model.specs.declared.ExprId.{ExprId}
 use Rattle.fx_model.specs.declared.Node.{Node}
 use Rattle.fx_model.specs.declared.Node.TheVariants.{Var}
-use Rattle.expr_dag.specs.Nodes.{with_node}
+use Rattle.expr_dag.specs.Nodes.{with_node, place_of}
 
 -- the bytes of a name
 abbrev pub Name : Type 0
@@ -61,6 +61,21 @@ name_put k text None = variable_put k text
 -- what is known with this name, and the number of what it stands for
 unfoldable pub named : Known → Name → PlacedNode
 named k text = name_put k text (entry_of k.values text)
+
+-- the number of a variable's node, where there is a variable and it has one
+abbrev pub node_at : List Node → Option ℕ → Option ExprId
+node_at nodes None = None
+node_at nodes (Some place) = place_of nodes (Var place)
+
+-- the number of a value, or else of a variable's node
+abbrev pub value_or_node : Option ExprId → Option ExprId → Option ExprId
+value_or_node (Some x) other = Some x
+value_or_node None other = other
+
+-- The number of what a name stands for, where it has a value or is a variable with a node.
+abbrev pub number_of : Known → Name → Option ExprId
+number_of k text = value_or_node (entry_of k.values text)
+    (node_at k.nodes (position (bytes_eq text) k.variables))
 
 -- Rounding to whole numbers toward 0. It stands where a name isn't an operator's, which no script
 -- has.

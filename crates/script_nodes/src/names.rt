@@ -2,7 +2,7 @@
 
 ghost use Rattle.std.specs.Prelude.{◌≡◌, List, [], length, take, slice_get, IfOk, OnOk, OnErr};
 ghost use Rattle.std.specs.Option.{option_copied};
-ghost use Rattle.std.specs.List.{position_or_len};
+ghost use Rattle.std.specs.List.{position, position_or_len};
 ghost use Rattle.std.specs.Str.{bytes_eq};
 ghost use Rattle.script_nodes.specs.Known as spec;
 
@@ -45,6 +45,13 @@ impl<'a> Variables<'a> {
     {
         let (place, _) = self.names.insert_full(name)?;
         Ok(place)
+    }
+
+    /// The place of a name, if it is among them.
+    pub fn place(&self, name: &'a [u8]) -> Option<usize>
+        ensures { result ≡ position (bytes_eq name.now) self.now }
+    {
+        self.names.get_index_of(&name)
     }
 
     /// The name at a place, if there is one.

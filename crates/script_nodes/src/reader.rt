@@ -132,6 +132,21 @@ impl<'a> NodeReader<'a> {
         self.values.get(name)
     }
 
+    /// The number of a name's node: that of its value, or of its variable, where it has one.
+    pub fn number(&self, name: &'a [u8]) -> Option<ExprId>
+        ensures number { result ≡ spec.number_of self.now.known name.now }
+        ensures below { IfSome result (λ x. x.0 < length self.now.known.nodes) }
+    {
+        self.dag.laws();
+        match self.value(name) {
+            Some(x) => Some(x),
+            None => match self.variables.place(name) {
+                Some(place) => self.dag.find(Node::Var(place as u16)),
+                None => None,
+            },
+        }
+    }
+
     /// The rounding of an operator. Where the name isn't an operator's, it is to whole numbers
     /// toward 0.
     pub fn operator(&self, name: &'a [u8]) -> Rounding
