@@ -27,7 +27,7 @@ use Rattle.facts.specs.Order.{slot_of, IsStronger}
 use Rattle.facts.proofs.Laws.{IsStronger-trans, IsStronger-meet, meet_exists}
 use Rattle.facts.specs.Conclusions.{bnd_of}
 use Rattle.derivation.specs.Derivations.{At}
-use Rattle.box_tree.specs.declared.range.SplitRange.{SplitRange}
+use Rattle.script_claims.specs.declared.range.SplitRange.{SplitRange}
 use Rattle.box_tree.specs.Ranges.{IsWithin}
 use Rattle.box_tree.specs.Points.{piece_of}
 use Rattle.box_tree.proofs.InRanges.{within_at}

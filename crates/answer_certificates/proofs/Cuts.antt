@@ -15,8 +15,9 @@ use Rattle.script_hints.specs.declared.hint.Split.{Split}
 use Rattle.script_hints.specs.Few.{HasFewPieces, HaveFewPieces}
 use Rattle.box_tree.specs.declared.next.Next.{Next}
 use Rattle.box_tree.specs.declared.next.Next.TheVariants as next
-use Rattle.box_tree.specs.declared.range.SplitRange.{SplitRange}
-use Rattle.box_tree.specs.Ranges.{IsWithin, is_inside, range_in}
+use Rattle.script_claims.specs.declared.range.SplitRange.{SplitRange}
+use Rattle.script_claims.specs.Ranges.{is_inside}
+use Rattle.box_tree.specs.Ranges.{IsWithin, range_in}
 use Rattle.box_tree.specs.Points.{is_above_last, with_point, with_points, parts_from, asked_points}
 use Rattle.box_tree.specs.Points.{cut_points, middle, half_point}
 use Rattle.box_tree.specs.Regions.{PlanParts, Region, points_in, forced_or, next_forced, half_in}

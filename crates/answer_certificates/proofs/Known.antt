@@ -20,14 +20,15 @@ use Rattle.script_claims.specs.declared.claim.Claim.{Claim}
 use Rattle.script_claims.specs.Facts.{hypothesis_fact, with_fact, facts_of}
 use Rattle.derivation.specs.Derivations.{Setting, given}
 use Rattle.derivation.specs.Known.{Piece, Known}
-use Rattle.box_tree.specs.declared.range.SplitRange.{SplitRange}
+use Rattle.script_claims.specs.declared.range.SplitRange.{SplitRange}
+use Rattle.script_claims.specs.Ranges.{finite_range, range_by, or_later, split_range}
 use Rattle.box_tree.specs.Ranges.{range_in, put_range}
 use Rattle.box_tree.specs.Points.{piece_of}
 use Rattle.box_tree.specs.Regions.{PlanParts, Region, root, piece, region_below, region_at}
 use Rattle.box_tree.specs.Regions.{narrowed, with_piece}
 use Rattle.box_tree.specs.Plans.{or_whole, interval_of, last_piece, with_last, pieces_below}
 use Rattle.box_tree.specs.Plans.{pieces_at, piece_at}
-use Rattle.box_tree.specs.Root.{finite_range, range_by, or_later, split_range, with_range}
+use Rattle.box_tree.specs.Root.{with_range}
 use Rattle.box_tree.specs.Root.{split_ranges}
 use Rattle.box_tree.proofs.InRanges.{at_bool, below_append, range_var, finite_out}
 use Rattle.cert_checker.specs.Faults.{IsVariable}

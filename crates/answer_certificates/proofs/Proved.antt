@@ -25,7 +25,7 @@ use Rattle.box_tree.specs.declared.cut.Cut.{Cut}
 use Rattle.box_tree.specs.declared.cut.Cut.TheVariants.{Forced, Half, Bottom}
 use Rattle.box_tree.specs.declared.next.Next.{Next}
 use Rattle.box_tree.specs.declared.next.Next.TheVariants as next_cut
-use Rattle.box_tree.specs.declared.range.SplitRange.{SplitRange}
+use Rattle.script_claims.specs.declared.range.SplitRange.{SplitRange}
 use Rattle.box_tree.specs.Ranges.{range_in}
 use Rattle.box_tree.specs.Points.{piece_of}
 use Rattle.box_tree.specs.Pieces.{piece_count}

@@ -24,8 +24,9 @@ use Rattle.script_hints.specs.declared.hint.Split.{Split}
 use Rattle.script_hints.specs.declared.hint.Cutting.{Cutting}
 use Rattle.box_tree.specs.declared.next.Next.{Next}
 use Rattle.box_tree.specs.declared.next.Next.TheVariants as next
-use Rattle.box_tree.specs.declared.range.SplitRange.{SplitRange}
-use Rattle.box_tree.specs.Ranges.{IsOrdered, IsWithin, is_inside, range_in, put_range}
+use Rattle.script_claims.specs.declared.range.SplitRange.{SplitRange}
+use Rattle.script_claims.specs.Ranges.{IsOrdered, is_inside}
+use Rattle.box_tree.specs.Ranges.{IsWithin, range_in, put_range}
 use Rattle.box_tree.specs.Points.{is_above_last, with_point, with_points, asked_points, cut_points}
 use Rattle.box_tree.specs.Points.{half_point, piece_of}
 use Rattle.box_tree.specs.Nexts.{IsWithinNext}

@@ -9,7 +9,7 @@ use Rattle.facts.proofs.CommonParts.{at_option}
 use Rattle.script_hints.specs.declared.hint.Split.{Split}
 use Rattle.box_tree.specs.declared.next.Next.{Next}
 use Rattle.box_tree.specs.declared.next.Next.TheVariants as next
-use Rattle.box_tree.specs.declared.range.SplitRange.{SplitRange}
+use Rattle.script_claims.specs.declared.range.SplitRange.{SplitRange}
 use Rattle.box_tree.specs.Ranges.{range_in}
 use Rattle.box_tree.specs.Pieces.{piece_count}
 use Rattle.box_tree.specs.Regions.{PlanParts, Region, root, points_in, next_forced, half_in}

@@ -15,11 +15,11 @@ use Rattle.facts.specs.Order.{is_same}
 use Rattle.facts.proofs.CommonParts.{expr_same}
 use Rattle.script_hints.specs.declared.hint.Split.{Split}
 use Rattle.script_hints.specs.Few.{HaveFewPieces}
-use Rattle.box_tree.specs.declared.range.SplitRange.{SplitRange}
-use Rattle.box_tree.specs.Ranges.{IsWithin, is_less, is_inside, range_in}
+use Rattle.script_claims.specs.declared.range.SplitRange.{SplitRange}
+use Rattle.script_claims.specs.Ranges.{is_less, is_inside, finite_range}
+use Rattle.box_tree.specs.Ranges.{IsWithin, range_in}
 use Rattle.box_tree.specs.Points.{is_above_last}
 use Rattle.box_tree.specs.Regions.{PlanParts, Region, piece, region_below}
-use Rattle.box_tree.specs.Root.{finite_range}
 use Rattle.box_tree.specs.Plans.{pieces_at}
 
 -- by both answers of a test

@@ -19,7 +19,8 @@ use Rattle.script_hints.specs.declared.hint.Split.{Split}
 use Rattle.script_hints.specs.declared.hint.HintList.{HintList}
 use Rattle.box_tree.specs.declared.next.Next.{Next}
 use Rattle.box_tree.specs.declared.next.Next.TheVariants as next
-use Rattle.box_tree.specs.declared.range.SplitRange.{SplitRange}
+use Rattle.script_claims.specs.declared.range.SplitRange.{SplitRange}
+use Rattle.script_claims.specs.Ranges.{finite_range, range_by, or_later, split_range}
 use Rattle.box_tree.specs.Pieces.{piece_count}
 use Rattle.box_tree.specs.Points.{half_point, piece_of}
 use Rattle.box_tree.specs.Ranges.{range_in, put_range}
@@ -29,8 +30,7 @@ use Rattle.box_tree.specs.Regions.{next_of, with_piece, narrowed, piece_by, piec
 use Rattle.box_tree.specs.Regions.{region_at}
 use Rattle.box_tree.specs.Plans.{cut_by, cut_at, last_piece, piece_at}
 use Rattle.box_tree.proofs.InRanges.{below_append}
-use Rattle.box_tree.specs.Root.{finite_range, range_by, or_later, split_range, with_range}
-use Rattle.box_tree.specs.Root.{split_ranges, plan_by, IsBounded}
+use Rattle.box_tree.specs.Root.{with_range, split_ranges, plan_by, IsBounded}
 
 module _ (K : ExprId → Type 0) where
   -- it is so of each range's variable

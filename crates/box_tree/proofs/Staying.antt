@@ -12,8 +12,9 @@ use Rattle.dyadic.proofs.Rising.{point_last}
 use Rattle.script_hints.specs.Few.{HasFewPieces}
 use Rattle.script_hints.specs.declared.hint.Cutting.{Cutting}
 use Rattle.script_hints.specs.declared.hint.Cutting.TheVariants as cutting
-use Rattle.box_tree.specs.declared.range.SplitRange.{SplitRange}
-use Rattle.box_tree.specs.Ranges.{IsOrdered, IsWithin, is_less, is_inside}
+use Rattle.script_claims.specs.declared.range.SplitRange.{SplitRange}
+use Rattle.script_claims.specs.Ranges.{IsOrdered, is_less, is_inside}
+use Rattle.box_tree.specs.Ranges.{IsWithin}
 use Rattle.box_tree.specs.Points.{part_at, parts_from, asked_points, is_above_last, with_points}
 use Rattle.box_tree.specs.Points.{cut_points, staying, piece_of}
 use Rattle.box_tree.proofs.InRanges.{at_bool, lt_in}

@@ -22,9 +22,10 @@ use Rattle.script_claims.specs.declared.claim.Claim.{Claim}
 use Rattle.script_claims.specs.Facts.{hypothesis_fact}
 use Rattle.script_claims.specs.Meets.{IsTrueAt}
 use Rattle.script_hints.specs.declared.hint.HintList.{HintList}
-use Rattle.box_tree.specs.declared.range.SplitRange.{SplitRange}
+use Rattle.script_claims.specs.declared.range.SplitRange.{SplitRange}
+use Rattle.script_claims.specs.Ranges.{finite_range, range_by, or_later, split_range}
 use Rattle.box_tree.specs.Ranges.{range_in}
-use Rattle.box_tree.specs.Root.{finite_range, range_by, or_later, split_range, with_range}
+use Rattle.box_tree.specs.Root.{with_range}
 use Rattle.box_tree.specs.Root.{split_ranges, plan_by}
 use Rattle.box_tree.specs.Covers.{Has, LiesInRange, LieIn, LieInBox}
 use Rattle.box_tree.proofs.Cover.{root_out}

@@ -11,8 +11,8 @@ use Rattle.dyadic.specs.Rising.{point_of}
 use Rattle.interval.specs.Results.{point_of as nearest}
 use Rattle.script_hints.specs.declared.hint.Cutting.{Cutting}
 use Rattle.script_hints.specs.declared.hint.Cutting.TheVariants as cutting
-use Rattle.box_tree.specs.declared.range.SplitRange.{SplitRange}
-use Rattle.box_tree.specs.Ranges.{is_less, is_inside}
+use Rattle.script_claims.specs.declared.range.SplitRange.{SplitRange}
+use Rattle.script_claims.specs.Ranges.{is_less, is_inside}
 
 -- ---- numbers of the grid near a fraction
 abbrev pub number_or : Dyadic → End → Dyadic

@@ -2,11 +2,11 @@
 ghost use Rattle.std.specs.Prelude.{◌≡◌, ◌≤◌, length};
 ghost use Rattle.std.specs.List.{AllByRecursion};
 ghost use Rattle.script_hints.specs.Few.{HaveFewPieces};
-ghost use Rattle.box_tree.specs.Ranges.{IsOrdered};
+ghost use Rattle.script_claims.specs.Ranges.{IsOrdered};
 
-use crate::range::SplitRange;
 use fx_edge::Items;
 use fx_model::ExprId;
+use script_claims::SplitRange;
 use script_hints::hint::Split;
 use std::marker::Model;
 
@@ -25,7 +25,7 @@ impl Model for Plan {
     ghost use Rattle.std.specs.Prelude.{◌≡◌, ◌≤◌, length, take};
     ghost use Rattle.std.specs.List.{AllByRecursion};
     ghost use Rattle.script_hints.specs.Few.{HaveFewPieces};
-    ghost use Rattle.box_tree.specs.Ranges.{IsOrdered};
+    ghost use Rattle.script_claims.specs.Ranges.{IsOrdered};
     ghost use Rattle.box_tree.specs.Regions as seen;
 
     ghost Value = { seen.PlanParts };

@@ -2,12 +2,13 @@
 ghost use Rattle.std.specs.Prelude.{◌≡◌, ◌<◌, ◌≤◌, ◌-◌, ◌+◌, [], ◌∷◌, length, drop};
 ghost use Rattle.dyadic.specs.Rising.{point_of};
 ghost use Rattle.script_hints.specs.Few.{HasFewPieces};
-ghost use Rattle.box_tree.specs.Ranges.{IsOrdered, IsWithin};
+ghost use Rattle.script_claims.specs.Ranges.{IsOrdered};
+ghost use Rattle.box_tree.specs.Ranges.{IsWithin};
 ghost use Rattle.box_tree.specs.Points.{asked_points};
 ghost use Rattle.box_tree.specs.Points as spec;
 
-use crate::range::SplitRange;
 use dyadic::{Dyadic, Points, part_down};
+use script_claims::SplitRange;
 use script_hints::hint::Cutting;
 
 /// The number i of the points that cut the range into n parts.

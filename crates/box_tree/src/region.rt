@@ -3,8 +3,9 @@ ghost use Rattle.std.specs.Prelude.{◌≡◌, ◌<◌, ◌≤◌, ◌+◌, ◌-
 ghost use Rattle.std.specs.Prelude.{IfSome};
 ghost use Rattle.std.specs.List.{AllByRecursion};
 ghost use Rattle.script_hints.specs.Few.{HasFewPieces, HaveFewPieces};
+ghost use Rattle.script_claims.specs.Ranges.{IsOrdered};
 ghost use Rattle.box_tree.specs.Nexts.{IsHalved, IsWithinNext};
-ghost use Rattle.box_tree.specs.Ranges.{IsOrdered, IsWithin, put_range, range_in};
+ghost use Rattle.box_tree.specs.Ranges.{IsWithin, put_range, range_in};
 ghost use Rattle.box_tree.specs.Points.{are_any};
 ghost use Rattle.box_tree.specs.Regions as spec;
 
@@ -12,9 +13,10 @@ use crate::halves::half_point;
 use crate::next::Next;
 use crate::plan::Plan;
 use crate::points::{cut_piece, cut_points, half_piece, has_points};
-use crate::range::{SplitRange, put_range, range_in};
+use crate::range::{put_range, range_in};
 use dyadic::{Dyadic, Points};
 use fx_model::ExprId;
+use script_claims::SplitRange;
 use script_hints::hint::Split;
 use std::marker::Model;
 
@@ -32,7 +34,7 @@ pub struct Region {
 impl Model for Region {
     ghost use Rattle.std.specs.Prelude.{◌≡◌, ◌≤◌, length, take};
     ghost use Rattle.std.specs.List.{AllByRecursion};
-    ghost use Rattle.box_tree.specs.Ranges.{IsOrdered};
+    ghost use Rattle.script_claims.specs.Ranges.{IsOrdered};
     ghost use Rattle.box_tree.specs.Regions as seen;
 
     ghost Value = { seen.Region };

@@ -9,60 +9,20 @@ ghost use Rattle.script_claims.specs.Facts.{HasNormalBounds};
 ghost use Rattle.script_claims.specs.Meets.{IsTrueAt};
 ghost use Rattle.script_claims.specs.declared.claim.Claim.{Claim};
 ghost use Rattle.script_hints.specs.declared.hint.HintList.{HintList};
+ghost use Rattle.script_claims.specs.Ranges.{IsOrdered};
 ghost use Rattle.box_tree.specs.Few.{AreFew};
 ghost use Rattle.box_tree.specs.Pieces.{piece_count};
 ghost use Rattle.box_tree.specs.Plans.{cut_at, piece_at};
-ghost use Rattle.box_tree.specs.Ranges.{IsOrdered};
 ghost use Rattle.box_tree.specs.Root as spec;
 ghost use Rattle.box_tree.specs.Covers.{LieInBox};
 
 use crate::plan::Plan;
-use crate::range::SplitRange;
-use dyadic::{Dyadic, End};
-use facts::Fact;
+use dyadic::Dyadic;
 use fx_edge::Items;
 use fx_model::ExprId;
-use interval::Interval;
-use script_claims::{Claim, hypotheses_hold};
+use script_claims::{Claim, SplitRange, hypotheses_hold, split_range};
 use script_hints::hint::{Cutting, HintList, Split};
 use std::alloc::{AllocError, Global};
-
-/// The interval as a range, where its ends are finite.
-fn finite_range(x: ExprId, i: Interval) -> Option<SplitRange>
-    ensures is { result ≡ spec.finite_range x i.lo i.hi }
-    ensures ordered { IfSome result IsOrdered }
-{
-    match (i.lo(), i.hi()) {
-        (End::At(low), End::At(high)) => Some(SplitRange { var: x, low, high }),
-        _ => None,
-    }
-}
-
-/// The range that a hypothesis gives a variable.
-fn range_by(x: ExprId, fact: Option<Fact>) -> Option<SplitRange>
-    ensures is { result ≡ spec.range_by x fact }
-    ensures ordered { IfSome result IsOrdered }
-{
-    match fact {
-        Some(Fact::Bnd(y, i)) => if y == x { finite_range(x, i) } else { None },
-        _ => None,
-    }
-}
-
-/// The range that the first such hypothesis gives it.
-fn split_range(claims: &[Claim], x: ExprId) -> Option<SplitRange>
-    requires { AllByRecursion HasNormalBounds claims.now }
-    ensures is { result ≡ spec.split_range claims.now x }
-    ensures ordered { IfSome result IsOrdered }
-{
-    match claims {
-        [] => None,
-        [claim, later @ ..] => match range_by(x, claim.hypothesis()) {
-            Some(range) => Some(range),
-            None => split_range(later, x),
-        },
-    }
-}
 
 /// What stands where no range does.
 fn no_range() -> SplitRange {

@@ -5,3 +5,4 @@ pub mod NormalParts
 pub mod Grows
 pub mod FormulaParts
 pub mod Facts
+pub mod InParts

@@ -7,6 +7,7 @@ mod laws;
 mod numbers;
 mod part;
 mod proposition;
+mod range;
 mod reader;
 mod sides;
 
@@ -15,5 +16,6 @@ pub use claims::{facts_of, goals_of};
 pub use laws::{
     claims_only_grow, formulas_are_read, goals_are_enough, hypotheses_hold, parts_have_hypotheses,
 };
+pub use range::{SplitRange, is_less, split_range};
 pub use reader::ClaimReader;
 pub use sides::Sides;

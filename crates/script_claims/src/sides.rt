@@ -1,12 +1,13 @@
 //! The claims of the propositions that were read.
 
 ghost use Rattle.std.specs.Prelude.{◌≡◌, ◌<◌, ◌≤◌, All, Some, slice_get, IfOk, OnOk, OnErr};
+ghost use Rattle.std.specs.List.{flat_map, AllByRecursion};
 ghost use Rattle.script_cases.specs.Cases.{cases, case_count};
 ghost use Rattle.script_claims.specs.Claims as spec;
 ghost use Rattle.script_claims.specs.Facts.{HasNormalBounds};
 
 use crate::claim::Claim;
-use script_cases::Parts;
+use script_cases::{Conjunctions, Parts};
 use std::alloc::{AllocError, Global};
 use std::marker::Model;
 
@@ -23,6 +24,7 @@ impl Model for Sides {
     ghost use Rattle.std.specs.Prelude.{◌≤◌, All, length, take, drop};
     ghost use Rattle.script_claims.specs.Claims.{Sides as View};
     ghost use Rattle.script_claims.specs.Facts.{HasNormalBounds};
+    ghost use Rattle.script_claims.specs.Ranges.{AllInParts};
 
     ghost Value = { View };
 
@@ -33,7 +35,7 @@ impl Model for Sides {
     } };
 
     ghost invariant = { λ s. (s.assumed ≤ length s.parts.items)
-        × All HasNormalBounds s.parts.items };
+        × All HasNormalBounds s.parts.items × AllInParts HasNormalBounds s.parts };
 }
 
 impl Sides {
@@ -97,6 +99,17 @@ impl Sides {
         ensures some { 0 < result }
     {
         self.parts.case_count()
+    }
+
+    /// The conjunctions that the case with this number takes.
+    pub fn conjunctions(&self, number: usize) -> Conjunctions<'_, Claim>
+        requires few { case_count self.now.parts.before ≤ 64 }
+        requires number { number < case_count self.now.parts.before }
+        ensures case { slice_get (cases self.now.parts.before) number
+            ≡ Some (flat_map (λ c. c) result) }
+        ensures normal { AllByRecursion (AllByRecursion HasNormalBounds) result }
+    {
+        self.parts.conjunctions(number)
     }
 
     /// The claims of the case with this number.

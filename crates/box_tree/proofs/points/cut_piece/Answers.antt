@@ -1,8 +1,8 @@
 use Rattle.std.proofs.Common.{List, sym, ap, ◌∙◌, subst}
 use Rattle.dyadic.specs.declared.number.Dyadic.{Dyadic}
-use Rattle.box_tree.specs.declared.range.SplitRange.{SplitRange}
+use Rattle.script_claims.specs.declared.range.SplitRange.{SplitRange}
+use Rattle.script_claims.specs.Ranges.{IsOrdered}
 use Rattle.box_tree.specs.Points.{piece_of}
-use Rattle.box_tree.specs.Ranges.{IsOrdered}
 use Rattle.box_tree.proofs.Staying.{cut_is, cut_ordered}
 use Rattle.box_tree.proofs.points.cut_piece.Goals as goal
 

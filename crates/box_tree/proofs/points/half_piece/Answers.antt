@@ -1,5 +1,5 @@
 use Rattle.std.proofs.Common.{[], ◌∷◌, refl, sym, ◌∙◌, subst, arith}
-use Rattle.box_tree.specs.Ranges.{IsOrdered}
+use Rattle.script_claims.specs.Ranges.{IsOrdered}
 use Rattle.box_tree.proofs.Staying.{first_piece, later_piece, half_ordered}
 use Rattle.box_tree.proofs.points.half_piece.Goals as goal
 

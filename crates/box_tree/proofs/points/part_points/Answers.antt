@@ -1,6 +1,6 @@
 use Rattle.std.proofs.Common.{◌≡◌, ◌+◌, ◌-◌, ◌<◌, [], suc, ℕ, arith, ap, ◌∙◌, List}
 use Rattle.dyadic.specs.declared.number.Dyadic.{Dyadic}
-use Rattle.box_tree.specs.declared.range.SplitRange.{SplitRange}
+use Rattle.script_claims.specs.declared.range.SplitRange.{SplitRange}
 use Rattle.box_tree.specs.Points as spec
 use Rattle.box_tree.proofs.points.part_points.Goals as goal
 

@@ -2,7 +2,7 @@ use Rattle.std.proofs.Common.{◌≡◌, ◌<◌, ◌++◌, [], ◌∷◌, List,
 use Rattle.std.proofs.Common.{append-nil}
 use Rattle.fx_model.specs.declared.ExprId.{ExprId}
 use Rattle.script_claims.specs.declared.claim.Claim.{Claim}
-use Rattle.box_tree.specs.declared.range.SplitRange.{SplitRange}
+use Rattle.script_claims.specs.declared.range.SplitRange.{SplitRange}
 use Rattle.box_tree.specs.Root.{split_ranges}
 use Rattle.box_tree.proofs.root.put_ranges.Goals as goal
 

@@ -1,6 +1,6 @@
 use Rattle.std.proofs.Common.{◌≡◌, ◌≤◌, ◌+◌, ◌++◌, take, length}
 use Rattle.std.specs.List.{AllByRecursion}
-use Rattle.box_tree.specs.Ranges.{IsOrdered}
+use Rattle.script_claims.specs.Ranges.{IsOrdered}
 use Rattle.box_tree.specs.Root.{split_ranges}
 use Rattle.box_tree.proofs.root.put_ranges.Given as goal
 

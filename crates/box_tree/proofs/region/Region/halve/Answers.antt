@@ -2,7 +2,7 @@ use Rattle.std.proofs.Common.{◌≡◌, List, [], ◌∷◌, take, Option, Some
 use Rattle.std.proofs.Common.{◌∙◌}
 use Rattle.std.specs.List.{AllByRecursion}
 use Rattle.dyadic.specs.declared.number.Dyadic.{Dyadic}
-use Rattle.box_tree.specs.declared.range.SplitRange.{SplitRange}
+use Rattle.script_claims.specs.declared.range.SplitRange.{SplitRange}
 use Rattle.box_tree.specs.Ranges.{IsWithin, range_in}
 use Rattle.box_tree.specs.Regions.{Region}
 use Rattle.box_tree.proofs.Put.{range_ordered}
