@@ -1,7 +1,6 @@
 pub mod Roled
 pub mod Faulted
-pub mod Judging
-pub mod Firsts
+pub mod Turns
 pub mod Nested
 pub mod Unique
 pub mod Whole
@@ -11,3 +10,5 @@ pub mod FaultLaws
 pub mod JudgeLaws
 pub mod FirstLaws
 pub mod FewCases
+pub mod FrontGrows
+pub mod FrontsRead

@@ -19,10 +19,13 @@ use Rattle.script_judge.specs.Reading.{not_text, readable, IsFaultOf, refusal, f
 use Rattle.script_judge.specs.Reading as reading
 use Rattle.script_judge.specs.First.{IsFirstRefusal, first_of, refusal_of}
 use Rattle.script_judge.specs.First as first
+use Rattle.script_judge.specs.Said.{Said, Says}
+use Rattle.script_judge.specs.Front.{ReadsFronts}
 use Rattle.script_judge.specs.Numbers.{Notes, Tells}
 use Rattle.script_judge.specs.Judge.{Seen, nothing_seen, seen_after, refusal_at, Judged}
 use Rattle.script_judge.specs.Judge.{none_refused, refused, passed}
 use Rattle.script_judge.specs.declared.refusal.RefusalKind.TheVariants as kind
+use Rattle.script_judge.proofs.FrontsRead.{says_once}
 
 -- ---- readings
 
@@ -144,8 +147,7 @@ same_notes : (r : Due) (w : Word) (ls : List Leaf) (v u : Notes) → Tells v r w
 same_notes r w ls v u h k =
     let past = same_truth v.past u.past _ h.past k.past in
     let number = same_number v.number u.number _ h.number k.number in
-    let arrow : v.arrow_behind ≡ u.arrow_behind = h.arrow ∙ sym k.arrow in
-    λ i. record { past = past i; number = number i; arrow_behind = arrow i }
+    λ i. record { past = past i; number = number i }
 
 same_kind : (seen : Seen) (l : Leaf) (ls : List Leaf) (v w : Notes) (a b : Option RefusalKind)
     → Tells v l.role l.word ls → Tells w l.role l.word ls
@@ -172,22 +174,29 @@ judged_once {i} {seen} (passed {l = l} {ls = ls} {v = v} {found = a} t e r) (pas
     judged_once (subst (λ x. Judged (i + 1) (seen_after x seen l.role l.word) ls a)
     (same_notes l.role l.word ls v w t u) r) s
 
-module _ (lexes : LexesOnce) (shapes : ShapeIsUnique) (roles : RolesAreUnique) where
-  same_first : (text : List ℕ) (x y : Reading) (f g : Option Fault) → x ≡ y
-      → Judged 0 nothing_seen x.leaves f → Judged 0 nothing_seen y.leaves g
-      → first_of (fault (length text) x) (refusal_of x f)
-      ≡ first_of (fault (length text) y) (refusal_of y g)
-  same_first text x y f g e h k =
-      let there : Judged 0 nothing_seen y.leaves f =
-      subst (λ (r : Reading). Judged 0 nothing_seen r.leaves f) e h in
-      ap (λ (r : Reading). first_of (fault (length text) r) (refusal_of r f)) e
-      ∙ ap (λ o. first_of (fault (length text) y) (refusal_of y o)) (judged_once there k)
+module _ (lexes : LexesOnce) (shapes : ShapeIsUnique) (roles : RolesAreUnique)
+    (fronts : ReadsFronts)
+  where
+    same_first : (text : List ℕ) (x y : Reading) (a b : Option Said) (f g : Option Fault) → x ≡ y
+        → Says x.leaves a → Says y.leaves b
+        → Judged 0 (nothing_seen a) x.leaves f → Judged 0 (nothing_seen b) y.leaves g
+        → first_of (fault (length text) x) (refusal_of x f)
+        ≡ first_of (fault (length text) y) (refusal_of y g)
+    same_first text x y a b f g e p q h k =
+        let says : Says y.leaves a = subst (λ (r : Reading). Says r.leaves a) e p in
+        let there : Judged 0 (nothing_seen b) y.leaves f =
+        subst (λ s. Judged 0 (nothing_seen s) y.leaves f) (says_once fronts y.leaves a b says q)
+        (subst (λ (r : Reading). Judged 0 (nothing_seen a) r.leaves f) e h) in
+        ap (λ (r : Reading). first_of (fault (length text) r) (refusal_of r f)) e
+        ∙ ap (λ o. first_of (fault (length text) y) (refusal_of y o)) (judged_once there k)
 
-  pub first_once : (text : List ℕ) (a b : Option Refusal) → IsFirstRefusal text a
-      → IsFirstRefusal text b → a ≡ b
-  first_once text a b (first.unread h) (first.unread k) = text_once text _ _ h k
-  first_once text a b (first.unread h) (first.read k s j) = absurd (read_and_not text _ _ refl h k)
-  first_once text a b (first.read h r i) (first.unread k) = absurd (read_and_not text _ _ refl k h)
-  first_once text a b (first.read {r = x} {found = f} h r i)
-      (first.read {r = y} {found = g} k s j) =
-      same_first text x y f g (reading_once lexes shapes roles text x y r s) i j
+    pub first_once : (text : List ℕ) (a b : Option Refusal) → IsFirstRefusal text a
+        → IsFirstRefusal text b → a ≡ b
+    first_once text a b (first.unread h) (first.unread k) = text_once text _ _ h k
+    first_once text a b (first.unread h) (first.read k s q j) =
+        absurd (read_and_not text _ _ refl h k)
+    first_once text a b (first.read h r p i) (first.unread k) =
+        absurd (read_and_not text _ _ refl k h)
+    first_once text a b (first.read {r = x} {said = m} {found = f} h r p i)
+        (first.read {r = y} {said = n} {found = g} k s q j) =
+        same_first text x y m n f g (reading_once lexes shapes roles text x y r s) p q i j

@@ -20,7 +20,7 @@ at_end len (Some b) whole e = absurd (cc e)
 at_end len None true e = (refl, refl)
 at_end len None false e = absurd (cc e)
 
-ends : (len : ℕ) (r : Reading) (w : Option Word) → fault_at len r w ≡ None
+pub ends : (len : ℕ) (r : Reading) (w : Option Word) → fault_at len r w ≡ None
     → (r.bad ≡ None) × (r.whole ≡ true)
 ends len r (Some w) e = absurd (cc e)
 ends len r None e = at_end len r.bad r.whole e

@@ -19,5 +19,4 @@ abbrev pub notes_of : CodeNotes → Notes
 notes_of v = record {
   past = v.past;
   number = option_map written_value v.number;
-  arrow_behind = v.arrow_behind;
 }

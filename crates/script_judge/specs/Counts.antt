@@ -1,5 +1,5 @@
 -- What is counted token by token, and what is open.
-use Rattle.std.specs.Prelude.{ℕ, ◌+◌, nat_lt, not, Bool, true, false}
+use Rattle.std.specs.Prelude.{ℕ, ◌+◌, ◌*◌, nat_lt, not, Bool, true, false}
 use Rattle.script_words.specs.declared.class.Symbol.{Symbol}
 use Rattle.script_words.specs.declared.class.Symbol.TheVariants as s
 use Rattle.script_words.specs.Words.{Word, name, rounding, literal, sign, is_open_brace}
@@ -108,6 +108,23 @@ pieces_after n d.Bound w = n + one_if (nat_lt 0 n)
 pieces_after n d.Semicolon w = 0
 pieces_after n r w = n
 
+-- ---- cases: those of the parts that have ended, and the conjunctions begun in the part in hand
+
+-- a `\/` between propositions
+abbrev pub is_disjunction : Due → Word → Bool
+is_disjunction d.Connective (sign s.Or) = true
+is_disjunction r w = false
+
+-- `->` ends a part, whose conjunctions multiply the cases
+abbrev pub cases_after : ℕ → ℕ → Due → Word → ℕ
+cases_after n m d.Connective (sign s.Arrow) = n * m
+cases_after n m r w = n
+
+-- a part begins with one conjunction, and `\/` begins one more
+abbrev pub conjunctions_after : ℕ → Due → Word → ℕ
+conjunctions_after m d.Connective (sign s.Arrow) = 1
+conjunctions_after m r w = m + one_if (is_disjunction r w)
+
 -- ---- whether operations are rounded by the definition, and whether split variables are halved for
 -- goals
 
@@ -141,4 +158,6 @@ counts_after c is_new r w = record {
   nodes = c.nodes + nodes_at c.rounds is_new r w;
   splits = c.splits + splits_at r;
   pieces = pieces_after c.pieces r w;
+  cases = cases_after c.cases c.conjunctions r w;
+  conjunctions = conjunctions_after c.conjunctions r w;
 }

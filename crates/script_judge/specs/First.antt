@@ -7,6 +7,7 @@ use Rattle.script_judge.specs.declared.refusal.RefusalKind.TheVariants as kind
 use Rattle.script_judge.specs.declared.fault.Fault.{Fault}
 use Rattle.script_judge.specs.Reading.{Reading, IsReadable, IsReadingOf, IsTextRefusal, IsFaultOf}
 use Rattle.script_judge.specs.Reading.{at_word, fault}
+use Rattle.script_judge.specs.Said.{Said, Says}
 use Rattle.script_judge.specs.Judge.{Judged, nothing_seen}
 
 -- the number of a kind in the table of refusals
@@ -40,12 +41,13 @@ refusal_of r None = None
 refusal_of r (Some f) = Some (at_word r.tokens f)
 
 -- The first refusal: of the bytes, else the first of that at which the reading ends and that of the
--- words before it.
+-- words before it. These are judged by what their formula says.
 pub data IsFirstRefusal : List ℕ → Option Refusal → Type 0 where
   unread : {text : List ℕ} {r : Refusal} → IsTextRefusal text (Some r)
       → IsFirstRefusal text (Some r)
-  read : {text : List ℕ} {r : Reading} {found : Option Fault} → IsReadable text → IsReadingOf text r
-      → Judged 0 nothing_seen r.leaves found
+  read : {text : List ℕ} {r : Reading} {said : Option Said} {found : Option Fault}
+      → IsReadable text → IsReadingOf text r → Says r.leaves said
+      → Judged 0 (nothing_seen said) r.leaves found
       → IsFirstRefusal text (first_of (fault (length text) r) (refusal_of r found))
 
 -- A text has one answer of each.

@@ -1,12 +1,11 @@
 -- The refusals that are judged on the words before the reading ends, token by token.
-use Rattle.std.specs.Prelude.{◌≡◌, ℕ, ◌+◌, ◌&&◌, ◌||◌, not, nat_lt, List, [], ◌∷◌, length, Option}
-use Rattle.std.specs.Prelude.{Some, None, Bool, true, false, if◌then◌else◌}
+use Rattle.std.specs.Prelude.{◌≡◌, ℕ, ◌+◌, ◌*◌, ◌&&◌, ◌||◌, not, nat_lt, List, [], ◌∷◌, length}
+use Rattle.std.specs.Prelude.{Option, Some, None, Bool, true, false, if◌then◌else◌}
 use Rattle.script_words.specs.declared.class.Symbol.TheVariants as s
 use Rattle.script_words.specs.Words.{Word, sign}
 use Rattle.script_shape.specs.declared.due.Due.{Due}
 use Rattle.script_shape.specs.declared.due.Due.TheVariants as d
 use Rattle.script_shape.specs.Roles.{Leaf}
-use Rattle.script_cases.specs.Parts.{begun_cases}
 use Rattle.script_judge.specs.declared.refusal.RefusalKind.{RefusalKind}
 use Rattle.script_judge.specs.declared.refusal.RefusalKind.TheVariants as kind
 use Rattle.script_judge.specs.declared.refusal.LimitKind.TheVariants as limit
@@ -18,23 +17,26 @@ use Rattle.script_judge.specs.Counts.{one_if, counts_after}
 use Rattle.script_judge.specs.Nesting.{opened_after}
 use Rattle.script_judge.specs.Bounds.{BoundsSeen, no_bounds, bounds_after, is_bad_bound}
 use Rattle.script_judge.specs.Sides.{is_arrow, is_or, has_arrow, begins_bound}
-use Rattle.script_judge.specs.Splits.{SplitsSeen, no_splits, splits_after, ends_between}
-use Rattle.script_judge.specs.Splits.{is_rangeless, is_bad_point}
+use Rattle.script_judge.specs.Said.{Said}
+use Rattle.script_judge.specs.Splits.{SplitsSeen, no_splits, splits_after, is_rangeless}
+use Rattle.script_judge.specs.Splits.{is_bad_point}
 use Rattle.script_judge.specs.Numbers.{Notes, Tells, has_no_pieces, is_past_lsb, is_past_pieces}
 use Rattle.script_judge.specs.Names.{NamesSeen, no_names, names_after, is_new, is_used}
-use Rattle.script_judge.specs.Names.{is_some_among, defines, ended, operand_name, split_name}
+use Rattle.script_judge.specs.Names.{is_some_among, defines, split_name}
 
--- what stands before a token
+-- what stands before a token: its words' names, what is open, what is counted, its bounds and the
+-- split variable; and what the text's formula says
 pub record Seen : Type 0 where
   pub names : NamesSeen
   pub opened : List Open
   pub counts : Counts
   pub bounds : BoundsSeen
+  pub said : Option Said
   pub splits : SplitsSeen
 
--- before the first token
-abbrev pub nothing_seen : Seen
-nothing_seen = record {
+-- before the first token of a text whose formula says this
+abbrev pub nothing_seen : Option Said → Seen
+nothing_seen said = record {
   names = no_names;
   opened = [];
   counts = record {
@@ -47,8 +49,11 @@ nothing_seen = record {
     nodes = 0;
     splits = 0;
     pieces = 0;
+    cases = 1;
+    conjunctions = 1;
   };
   bounds = no_bounds;
+  said = said;
   splits = no_splits;
 }
 
@@ -59,8 +64,8 @@ seen_after v seen r w = record {
   opened = opened_after seen.opened r w;
   counts = counts_after seen.counts (is_new seen.names r w) r w;
   bounds = bounds_after seen.bounds v.number r w;
-  splits = splits_after seen.splits (ended r seen.names.pending) (is_some_among seen.names.defined
-      (operand_name r w)) v.arrow_behind (ends_between seen.bounds.lower v.number) v.number r w;
+  said = seen.said;
+  splits = splits_after seen.splits seen.said (split_name r w) v.number r;
 }
 
 -- ---- `?` in a hypothesis; `@FIX`, `\/` and `not` in a goal: propositions with a `->` of the
@@ -112,14 +117,13 @@ abbrev pub form_refusal : Notes → Seen → Due → Word → Bool → List Leaf
 form_refusal v seen r w arrow_behind behind =
     form_kind (is_on_wrong_side r w arrow_behind behind)
     (is_used seen.names (defines r w) behind) (is_bad_bound seen.bounds v.number)
-    (is_rangeless seen.splits.ranges
-    (is_some_among seen.names.defined (split_name r w)) (split_name r w))
+    (is_rangeless seen.said (is_some_among seen.names.defined (split_name r w)) (split_name r w))
     (is_some_among seen.names.defined (split_name r w)) (has_no_pieces r w)
     (is_bad_point seen.splits (nat_lt 0 seen.counts.pieces) v.number) v.past
 
 -- the limits that are passed with a token
-abbrev pub limit_kind : ℕ → ℕ → Counts → Bool → Bool → Bool → Option RefusalKind
-limit_kind opened halved counts past_lsb past_pieces past_cases = first_kind (
+abbrev pub limit_kind : ℕ → ℕ → Counts → Bool → Bool → Option RefusalKind
+limit_kind opened halved counts past_lsb past_pieces = first_kind (
     (nat_lt 64 opened, kind.Limit limit.Nesting)
     ∷ ((nat_lt 256 counts.definitions, kind.Limit limit.Definitions)
     ∷ ((nat_lt 128 counts.propositions, kind.Limit limit.Propositions)
@@ -128,18 +132,13 @@ limit_kind opened halved counts past_lsb past_pieces past_cases = first_kind (
     ∷ ((past_lsb, kind.Limit limit.Lsb)
     ∷ ((nat_lt 4 counts.splits || nat_lt 4 halved, kind.Limit limit.Splits)
     ∷ ((nat_lt 64 counts.pieces || past_pieces, kind.Limit limit.Pieces)
-    ∷ ((past_cases, kind.Limit limit.Cases) ∷ [])))))))))
-
--- a `\/` of the formula with which the conjunctions that have begun make too many cases
-abbrev pub is_past_cases : Due → Word → ℕ → Bool
-is_past_cases d.Connective w count = is_or w && nat_lt 64 count
-is_past_cases r w count = false
+    ∷ ((nat_lt 64 (counts.cases * counts.conjunctions), kind.Limit limit.Cases) ∷ [])))))))))
 
 -- the limits that are passed with one token, which is among those that stand before
 abbrev pub limit_refusal : Seen → Due → Word → Option RefusalKind
 limit_refusal after r w =
     limit_kind (length after.opened) (length after.names.halved) after.counts
-    (is_past_lsb r w) (is_past_pieces r w) (is_past_cases r w (begun_cases after.splits.ranges))
+    (is_past_lsb r w) (is_past_pieces r w)
 
 -- the first that there is
 abbrev pub or_else : Option RefusalKind → Option RefusalKind → Option RefusalKind

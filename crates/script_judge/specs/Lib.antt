@@ -9,9 +9,11 @@ pub mod Bounds
 pub mod Sides
 pub mod Numbers
 pub mod BoundViews
-pub mod Subject
+pub mod Said
+pub mod Front
+pub mod FrontViews
 pub mod Splits
 pub mod SplitViews
 pub mod Judge
+pub mod Judging
 pub mod First
-pub mod Judgement

@@ -9,7 +9,6 @@ use Rattle.script_shape.specs.declared.due.Due.{Due}
 use Rattle.script_shape.specs.declared.due.Due.TheVariants as d
 use Rattle.script_shape.specs.Roles.{Leaf}
 use Rattle.script_judge.specs.Bounds.{IsBoundOf}
-use Rattle.script_judge.specs.Sides.{has_arrow}
 
 -- ---- digits alone
 
@@ -37,12 +36,10 @@ is_past_pieces r w = false
 -- ---- what only a literal's value tells
 
 -- what is noted of a token: whether it is a literal of an expression or a bound that is past its
--- limits, the value of the bound that begins there, and whether a `->` of the formula stands behind
--- it
+-- limits, the value of the bound that begins there
 pub record Notes : Type 0 where
   pub past : Bool
   pub number : Option Fraction
-  pub arrow_behind : Bool
 
 -- what is due where a literal of an expression or a bound stands
 abbrev pub is_number : Due → Bool
@@ -65,4 +62,3 @@ IsPast false w = ⊥
 pub record Tells (v : Notes) (r : Due) (w : Word) (behind : List Leaf) : Type 0 where
   pub past : IsTrue v.past ↔ IsPast (is_number r) w
   pub number : (x : Fraction) → (v.number ≡ Some x) ↔ IsBoundOf r w behind x
-  pub arrow : v.arrow_behind ≡ has_arrow behind

@@ -1,84 +1,58 @@
 -- Split ranges of variables, and points that split them.
-use Rattle.std.specs.Prelude.{◌&&◌, not, List, [], ◌∷◌, map, Option, Some, None, Bool, true, false}
-use Rattle.std.specs.Prelude.{if◌then◌else◌}
+use Rattle.std.specs.Prelude.{◌&&◌, not, List, [], map, Option, Some, None, Bool, true, false}
 use Rattle.std.specs.List.{list_any}
-use Rattle.std.specs.Str.{bytes_eq}
 use Rattle.fx_model.specs.Fraction.{Fraction}
-use Rattle.script_words.specs.declared.class.Symbol.TheVariants as s
-use Rattle.script_words.specs.Words.{Word, sign}
+use Rattle.fx_model.specs.declared.ExprId.{ExprId}
+use Rattle.dyadic.specs.Values.{value_of}
 use Rattle.script_shape.specs.declared.due.Due.{Due}
 use Rattle.script_shape.specs.declared.due.Due.TheVariants as d
 use Rattle.script_cases.specs.Cases.{cases}
-use Rattle.script_cases.specs.Parts.{Parts, nothing as no_parts, with_item, behind_or, behind_arrow}
-use Rattle.script_bounds.specs.Tests.{is_less, down_number, up_number}
-use Rattle.script_judge.specs.Names.{Name, split_name}
-use Rattle.script_judge.specs.Subject.{Subject, nothing, node_of, Alias, subject_after}
-use Rattle.script_judge.specs.Subject.{aliases_after}
+use Rattle.script_bounds.specs.Tests.{is_less, down_number}
+use Rattle.script_nodes.specs.Known.{number_of}
+use Rattle.script_claims.specs.declared.claim.Claim.{Claim}
+use Rattle.script_claims.specs.declared.range.SplitRange.{SplitRange}
+use Rattle.script_claims.specs.Ranges.{split_range}
+use Rattle.script_judge.specs.Names.{Name}
+use Rattle.script_judge.specs.Said.{Said}
 
 -- ---- split ranges
 
--- two numbers of the grid
-pub record Ends : Type 0 where
-  pub low : Fraction
-  pub high : Fraction
+-- the range that the hypotheses give a node, in each case of their parts
+abbrev pub case_ranges : List (List (List Claim)) → ExprId → List (Option SplitRange)
+case_ranges parts x = map (λ claims. split_range claims x) (cases parts)
 
--- A range with two finite ends that a hypothesis gives a variable.
-pub record SplitRange : Type 0 where
-  pub variable : Name
-  pub ends : Ends
+-- Whether a range is missing.
+abbrev pub is_none : Option SplitRange → Bool
+is_none None = true
+is_none (Some r) = false
 
--- bounds rounded outward, where both are finite
-abbrev pub ends_at : Option Fraction → Option Fraction → Option Ends
-ends_at None high = None
-ends_at (Some low) None = None
-ends_at (Some low) (Some high) = Some (record { low = low; high = high })
+-- what has no node has no range
+abbrev pub lacks_range : List (List (List Claim)) → Option ExprId → Bool
+lacks_range parts None = true
+lacks_range parts (Some x) = list_any is_none (case_ranges parts x)
 
--- of a lower and an upper bound that are there
-abbrev pub ends_between : Option Fraction → Option Fraction → Option Ends
-ends_between None high = None
-ends_between (Some low) None = None
-ends_between (Some low) (Some high) = ends_at (down_number low) (up_number high)
+-- Whether a split variable has no range in some case of the formula. Words that have none split no
+-- variable.
+abbrev pub is_lacking : Option Said → Option Name → Bool
+is_lacking said None = false
+is_lacking None (Some text) = false
+is_lacking (Some f) (Some text) = lacks_range f.parts (number_of f.known text)
 
--- one range more, where there is one
-abbrev pub with_range : Parts SplitRange → Name → Option Ends → Parts SplitRange
-with_range ranges variable None = ranges
-with_range ranges variable (Some ends) =
-    with_item ranges (record { variable = variable; ends = ends })
+-- a split variable that has no definition, and in some case no range
+abbrev pub is_rangeless : Option Said → Bool → Option Name → Bool
+is_rangeless said defined name = not defined && is_lacking said name
 
--- a hypothesis of a variable gives a range at its upper bound
-abbrev pub ranges_after : Parts SplitRange → Subject → Bool → Option Ends → Parts SplitRange
-ranges_after ranges (node_of variable) true ends = with_range ranges variable ends
-ranges_after ranges subject arrow_behind ends = ranges
-
--- `\/` ends a conjunction, and `->` a part
-abbrev pub connected : Parts SplitRange → Word → Parts SplitRange
-connected ranges (sign s.Or) = behind_or ranges
-connected ranges (sign s.Arrow) = behind_arrow ranges
-connected ranges w = ranges
-
--- the parts of ranges behind a word: only signs between propositions change them
-abbrev pub parts_after : Parts SplitRange → Due → Word → Parts SplitRange
-parts_after ranges d.Connective w = connected ranges w
-parts_after ranges r w = ranges
-
--- the range of a variable is that of the first such hypothesis
-abbrev pub range_of : List SplitRange → Name → Option Ends
-range_of [] text = None
-range_of (r ∷ rs) text = if bytes_eq r.variable text then Some r.ends else range_of rs text
-
--- its range in each case of the hypothesis parts
-abbrev pub case_ranges : Parts SplitRange → Name → List (Option Ends)
-case_ranges ranges text = map (λ case. range_of case text) (cases ranges.before)
-
--- the ranges of the split variable, where there is one
-abbrev pub ranges_at : Parts SplitRange → Option Name → List (Option Ends)
-ranges_at ranges None = []
-ranges_at ranges (Some text) = case_ranges ranges text
+-- the ranges of a node, where there is one
+abbrev pub node_ranges : List (List (List Claim)) → Option ExprId → List (Option SplitRange)
+node_ranges parts None = []
+node_ranges parts (Some x) = case_ranges parts x
 
 -- those of the split variable that stands before: of a new one these
-abbrev pub cut_after : List (Option Ends) → List (Option Ends) → Option Name → List (Option Ends)
-cut_after old found None = old
-cut_after old found (Some text) = found
+abbrev pub cut_after : Option Said → Option Name → List (Option SplitRange)
+    → List (Option SplitRange)
+cut_after said None old = old
+cut_after None (Some text) old = old
+cut_after (Some f) (Some text) old = node_ranges f.parts (number_of f.known text)
 
 -- ---- points
 
@@ -99,57 +73,36 @@ is_after None g = true
 is_after (Some before) g = is_less before g
 
 -- strictly inside a range
-abbrev pub is_inside : Fraction → Option Ends → Bool
+abbrev pub is_inside : Fraction → Option SplitRange → Bool
 is_inside g None = false
-is_inside g (Some ends) = is_less ends.low g && is_less g ends.high
+is_inside g (Some r) = is_less (value_of r.low) g && is_less g (value_of r.high)
 
 -- inside the range of some case, and above the point before
-abbrev pub splits_at : List (Option Ends) → Option Fraction → Option Fraction → Bool
+abbrev pub splits_at : List (Option SplitRange) → Option Fraction → Option Fraction → Bool
 splits_at cut before None = false
 splits_at cut before (Some g) = list_any (is_inside g) cut && is_after before g
 
 -- a point that, rounded down, is inside the range of no case, or not above the one before
-abbrev pub is_no_split : List (Option Ends) → Option Fraction → Option Fraction → Bool
+abbrev pub is_no_split : List (Option SplitRange) → Option Fraction → Option Fraction → Bool
 is_no_split cut before None = false
 is_no_split cut before (Some x) = not (splits_at cut before (down_number x))
 
 -- ---- what stands before a token
 
--- The expression so far, the aliases, the ranges of hypotheses, those of the split variable by
--- cases, and the point before.
+-- The ranges of the split variable by cases, and the point before.
 pub record SplitsSeen : Type 0 where
-  pub subject : Subject
-  pub aliases : List Alias
-  pub ranges : Parts SplitRange
-  pub cut : List (Option Ends)
+  pub cut : List (Option SplitRange)
   pub before : Option Fraction
 
 -- before the first token
 abbrev pub no_splits : SplitsSeen
-no_splits = record { subject = nothing; aliases = []; ranges = no_parts; cut = []; before = None }
+no_splits = record { cut = []; before = None }
 
--- What stands behind a token: `ended` is the name whose definition it ends, `defined` says that it
--- is an operand that has a definition, `ends` are those of a range whose upper bound begins there.
-abbrev pub splits_after : SplitsSeen → Option Name → Bool → Bool → Option Ends → Option Fraction
-    → Due → Word → SplitsSeen
-splits_after x ended defined arrow_behind ends number r w = record {
-  subject = subject_after x.subject x.aliases defined r w;
-  aliases = aliases_after x.aliases x.subject ended;
-  ranges = parts_after (ranges_after x.ranges x.subject arrow_behind ends) r w;
-  cut = cut_after x.cut (ranges_at x.ranges (split_name r w)) (split_name r w);
-  before = before_after x.before number r;
-}
-
--- ---- what is refused
-
--- Whether a variable has no range in a case.
-abbrev pub is_none : Option Ends → Bool
-is_none None = true
-is_none (Some ends) = false
-
--- a split variable that has no definition, and in some case no range
-abbrev pub is_rangeless : Parts SplitRange → Bool → Option Name → Bool
-is_rangeless ranges defined name = not defined && list_any is_none (ranges_at ranges name)
+-- What stands behind a token, which may name a split variable.
+abbrev pub splits_after : SplitsSeen → Option Said → Option Name → Option Fraction → Due
+    → SplitsSeen
+splits_after x said name number r =
+    record { cut = cut_after said name x.cut; before = before_after x.before number r }
 
 -- a point of a list that doesn't split
 abbrev pub is_bad_point : SplitsSeen → Bool → Option Fraction → Bool

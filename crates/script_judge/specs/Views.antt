@@ -12,7 +12,6 @@ use Rattle.script_judge.specs.Reading.{Reading}
 use Rattle.script_judge.specs.Names.{NamesSeen}
 use Rattle.script_judge.specs.Judge.{Seen}
 use Rattle.script_judge.specs.BoundViews.{bounds_of}
-use Rattle.script_judge.specs.SplitViews.{splits_seen}
 
 -- what the code has read
 abbrev pub reading_of : ReadText → Reading
@@ -32,11 +31,10 @@ pub record AreNames (names : Names) (seen : NamesSeen) : Type 0 where
   pub pending : option_copied names.pending ≡ seen.pending
   pub halved : map (λ n. n.now) names.halved.items ≡ seen.halved
 
--- the code has seen this
+-- the code has seen this, but for what the formula says and for split variables
 pub record IsSeen (code : CodeSeen) (seen : Seen) : Type 0 where
   pub names : AreNames code.names seen.names
   pub opened : reverse code.opened.items ≡ seen.opened
   pub counts : code.counts ≡ seen.counts
   pub bounds : bounds_of code.bounds ≡ seen.bounds
   pub within : IsWritten code.bounds.lower
-  pub splits : splits_seen code.splits ≡ seen.splits

@@ -149,13 +149,6 @@ impl Bounds {
         }
     }
 
-    /// The lower bound whose upper comes next.
-    pub fn lower(self) -> Option<Written>
-        ensures { result ≡ self.lower }
-    {
-        self.lower
-    }
-
     /// Takes a token, with the number of the bound that begins there.
     pub fn take(&mut self, number: Option<Written>, role: Due, word: Word<'_>)
         ensures value { bounds_of self.new

@@ -1,11 +1,12 @@
 //! What is counted token by token.
 
-ghost use Rattle.std.specs.Prelude.{◌≡◌, ◌≤◌, ◌<◌};
+ghost use Rattle.std.specs.Prelude.{◌≡◌, ◌≤◌, ◌<◌, ◌*◌};
 ghost use Rattle.script_words.specs.Named.{word_of};
 ghost use Rattle.script_words.specs.Words as words;
 ghost use Rattle.script_judge.specs.Counts as spec;
-ghost use Rattle.script_judge.specs.Limits.{IsWithinLimits};
+ghost use Rattle.script_judge.specs.Limits.{IsWithinLimits, HasCases};
 
+use crate::sides::is_arrow;
 use script_shape::due::Due;
 use script_words::class::Symbol;
 use script_words::words::Word;
@@ -39,6 +40,10 @@ pub struct Counts {
     pub splits: u32,
     /// The pieces that a list of points makes so far, and 0 outside one.
     pub pieces: u32,
+    /// The cases of the parts of the formula that have ended.
+    pub cases: u32,
+    /// The conjunctions that have begun in the part in hand.
+    pub conjunctions: u32,
 }
 
 fn is_open_brace(word: Word<'_>) -> bool
@@ -207,6 +212,35 @@ fn pieces_after(pieces: u32, role: Due, word: Word<'_>) -> u32
     }
 }
 
+/// Whether it is a `\/` of the formula.
+fn is_disjunction(role: Due, word: Word<'_>) -> bool
+    ensures { result ≡ spec.is_disjunction role (word_of word.entry) }
+{
+    matches!((role, word), (Due::Connective, Word::Sign(Symbol::Or)))
+}
+
+fn cases_after(cases: u32, conjunctions: u32, role: Due, word: Word<'_>) -> u32
+    requires { cases * conjunctions ≤ 64 }
+    ensures { result ≡ spec.cases_after cases conjunctions role (word_of word.entry) }
+{
+    if is_arrow(role, word) {
+        cases * conjunctions
+    } else {
+        cases
+    }
+}
+
+fn conjunctions_after(conjunctions: u32, role: Due, word: Word<'_>) -> u32
+    requires { conjunctions ≤ 64 }
+    ensures { result ≡ spec.conjunctions_after conjunctions role (word_of word.entry) }
+{
+    if is_arrow(role, word) {
+        1
+    } else {
+        conjunctions + one_if(is_disjunction(role, word))
+    }
+}
+
 fn is_equal_sign(word: Word<'_>) -> bool
     ensures { result ≡ spec.is_equal_sign (word_of word.entry) }
 {
@@ -235,8 +269,11 @@ fn halves_after(halves: bool, role: Due) -> bool
 
 /// The counts behind a token, which is the first operand of its name or isn't.
 pub fn counts_after(counts: Counts, is_new: bool, role: Due, word: Word<'_>) -> Counts
-    requires { IsWithinLimits counts }
-    ensures { result ≡ spec.counts_after counts is_new role (word_of word.entry) }
+    requires within { IsWithinLimits counts }
+    requires cases { HasCases counts }
+    ensures counts { result ≡ spec.counts_after counts is_new role (word_of word.entry) }
+    ensures begun { result.cases * result.conjunctions ≤ 128 }
+    ensures cases { HasCases result }
 {
     Counts {
         place: place_after(counts.place, role, word),
@@ -248,5 +285,7 @@ pub fn counts_after(counts: Counts, is_new: bool, role: Due, word: Word<'_>) -> 
         nodes: counts.nodes + nodes_at(counts.rounds, is_new, role, word),
         splits: counts.splits + splits_at(role),
         pieces: pieces_after(counts.pieces, role, word),
+        cases: cases_after(counts.cases, counts.conjunctions, role, word),
+        conjunctions: conjunctions_after(counts.conjunctions, role, word),
     }
 }

@@ -1,45 +1,59 @@
 //! The refusals that are judged on the words before the reading ends.
 
-ghost use Rattle.std.specs.Prelude.{◌≡◌, ◌≤◌, ◌<◌, ◌+◌, ◌∷◌, length, drop, map, IfOk, IfSome, OnOk};
-ghost use Rattle.std.specs.Option.{option_map};
-ghost use Rattle.literal_order.specs.Values.{IsWritten};
+ghost use Rattle.std.specs.Prelude.{◌≡◌, ◌≤◌, ◌<◌, ◌+◌, ◌*◌, ◌&&◌, not, ◌∷◌, nat_lt, length, drop};
+ghost use Rattle.std.specs.Prelude.{Some, None, Ok, IfOk, IfSome, OnOk};
+ghost use Rattle.std.specs.Option.{option_copied, option_map};
+ghost use Rattle.literal_order.specs.Values.{written_value, IsWritten};
 ghost use Rattle.script_words.specs.Named.{word_of};
 ghost use Rattle.script_words.specs.Kept.{words_in};
 ghost use Rattle.script_shape.specs.Roles.{leaves_of};
-ghost use Rattle.script_cases.specs.Cases.{case_count};
-ghost use Rattle.script_cases.specs.Parts.{begun_cases};
 ghost use Rattle.script_judge.specs.Names.{split_name};
-ghost use Rattle.script_judge.specs.Splits.{ranges_at};
-ghost use Rattle.script_judge.specs.SplitViews.{ends_seen, splits_seen};
+ghost use Rattle.script_judge.specs.Splits.{is_lacking, is_bad_point};
+ghost use Rattle.script_judge.specs.SplitViews.{said_if, AreKept, HasFewCases};
 ghost use Rattle.script_judge.specs.Judge as spec;
-ghost use Rattle.script_judge.specs.Judge.{Judged};
-ghost use Rattle.script_judge.specs.Limits.{IsWithinLimits};
+ghost use Rattle.script_judge.specs.Judging.{JudgedTo, HoldsSaid, IsFirstFault};
+ghost use Rattle.script_judge.specs.Limits.{IsWithinLimits, HasCases};
 ghost use Rattle.script_judge.specs.BoundViews.{notes_of};
 ghost use Rattle.script_judge.specs.Views.{IsSeen};
 
 use crate::bounds::Bounds;
 use crate::counts::{Counts, ScriptPart, counts_after};
 use crate::fault::Fault;
+use crate::formula::Formula;
 use crate::kinds::{form_kind, limit_kind};
 use crate::names::Names;
 use crate::nesting::{Open, open_or_close};
 use crate::numbers::{Notes, has_no_pieces, is_past_lsb, is_past_pieces, notes_on};
 use crate::refusal::RefusalKind;
 use crate::sides::{arrow_count, is_arrow, is_on_wrong_side, without};
-use crate::splits::{Ends, Splits, TokenReading, ends_between, is_rangeless};
+use crate::splits::Splits;
 use script_shape::due::Due;
 use script_words::list::WordList;
 use script_words::words::Word;
 use std::alloc::{AllocError, Global};
 
-/// What stood before a token.
+/// What stood before a token, but for split variables.
 #[derive(Drop)]
 struct Seen<'a> {
     names: Names<'a>,
     opened: Vec<Open>,
     counts: Counts,
     bounds: Bounds,
-    splits: Splits<'a>,
+}
+
+/// What is told of split variables at a token: whether it is one that lacks a range in some case,
+/// and whether it is a point that doesn't split.
+#[derive(Clone, Copy)]
+struct SplitTests {
+    lacks_range: bool,
+    bad_point: bool,
+}
+
+/// Whether a split variable without a definition lacks a range.
+fn is_rangeless(defined: bool, lacks_range: bool) -> bool
+    ensures { result ≡ (not defined && lacks_range) }
+{
+    !defined && lacks_range
 }
 
 /// What is refused whatever is counted.
@@ -50,15 +64,17 @@ fn form_refusal<'a>(
     arrow_behind: bool,
     words: WordList<'_, 'a>,
     roles: &[Due],
-    found: &[Option<Ends>],
+    split: SplitTests,
 ) -> Option<RefusalKind>
     requires words { length roles.now ≤ length (words_in words) }
     requires lower { IsWritten seen.now.bounds.lower }
     requires number { IsWritten notes.number }
-    requires found { map (option_map ends_seen) found.now
-        ≡ ranges_at (splits_seen seen.now.splits).ranges (split_name leaf.0 (word_of leaf.1)) }
-    ensures { (stands : spec.Seen) → IsSeen seen.now stands → result
-        ≡ spec.form_refusal (notes_of notes) stands leaf.entry.0
+    ensures { (stands : spec.Seen) → IsSeen seen.now stands
+        → split.lacks_range ≡ is_lacking stands.said
+        (split_name leaf.entry.0 (word_of leaf.entry.1))
+        → split.bad_point ≡ is_bad_point stands.splits (nat_lt 0 stands.counts.pieces)
+        (option_map written_value notes.number)
+        → result ≡ spec.form_refusal (notes_of notes) stands leaf.entry.0
         (word_of leaf.entry.1) arrow_behind
         (leaves_of roles.now (words_in words.entry)) }
 {
@@ -67,10 +83,7 @@ fn form_refusal<'a>(
     let used = seen.names.is_used(role, word, words, roles);
     let bad_bound = seen.bounds.is_bad(notes.number);
     let defined_split = seen.names.splits_defined(role, word);
-    let rangeless = is_rangeless(defined_split, found);
-    let bad_point = seen
-        .splits
-        .is_bad_point(seen.counts.pieces > 0, notes.number);
+    let rangeless = is_rangeless(defined_split, split.lacks_range);
     form_kind(
         wrong_side,
         used,
@@ -78,14 +91,14 @@ fn form_refusal<'a>(
         rangeless,
         defined_split,
         has_no_pieces(role, word),
-        bad_point,
+        split.bad_point,
         notes.past,
     )
 }
 
 /// The limit that is passed with the token.
 fn limit_refusal<'a>(seen: &Seen<'a>, role: Due, word: Word<'a>) -> Option<RefusalKind>
-    requires { case_count (splits_seen seen.now.splits).ranges.before ≤ 64 }
+    requires { seen.now.counts.cases * seen.now.counts.conjunctions ≤ 128 }
     ensures { (stands : spec.Seen) → IsSeen seen.now stands
         → result ≡ spec.limit_refusal stands role (word_of word.entry) }
 {
@@ -95,15 +108,14 @@ fn limit_refusal<'a>(seen: &Seen<'a>, role: Due, word: Word<'a>) -> Option<Refus
         seen.counts,
         is_past_lsb(role, word),
         is_past_pieces(role, word),
-        seen.splits.is_past_cases(role, word),
     )
 }
 
 impl<'a> Seen<'a> {
     fn new(alloc: Global) -> Seen<'a>
-        ensures seen { IsSeen result spec.nothing_seen }
+        ensures seen { IsSeen result (spec.nothing_seen None) }
         ensures within { IsWithinLimits result.counts }
-        ensures few { begun_cases (splits_seen result.splits).ranges ≤ 64 }
+        ensures cases { HasCases result.counts }
     {
         Seen {
             names: Names::new(alloc),
@@ -118,47 +130,43 @@ impl<'a> Seen<'a> {
                 nodes: 0,
                 splits: 0,
                 pieces: 0,
+                cases: 1,
+                conjunctions: 1,
             },
             bounds: Bounds::new(),
-            splits: Splits::new(alloc),
         }
     }
 
-    /// Takes a token, with the ranges of the split variable that it is: `found` has others then.
-    /// After an `Err` it is not to be used on.
-    fn take(
-        &mut self,
-        role: Due,
-        word: Word<'a>,
-        notes: Notes,
-        found: &mut Vec<Option<Ends>>,
-    ) -> Result<(), AllocError>
+    /// Takes a token. After an `Err` it is not to be used on.
+    fn take(&mut self, role: Due, word: Word<'a>, notes: Notes) -> Result<(), AllocError>
         requires counts { IsWithinLimits self.old.counts }
+        requires cases { HasCases self.old.counts }
         requires lower { IsWritten self.old.bounds.lower }
         requires number { IsWritten notes.number }
-        requires found { map (option_map ends_seen) found.old.items
-            ≡ ranges_at (splits_seen self.old.splits).ranges (split_name role (word_of word)) }
-        requires few { begun_cases (splits_seen self.old.splits).ranges ≤ 64 }
         ensures seen { OnOk result ((stands : spec.Seen) → IsSeen self.old stands
             → IsSeen self.new (spec.seen_after (notes_of notes) stands role
             (word_of word.entry))) }
-        ensures few { OnOk result (case_count (splits_seen self.new.splits).ranges.before ≤ 64) }
+        ensures begun { OnOk result
+            (self.new.counts.cases * self.new.counts.conjunctions ≤ 128) }
+        ensures cases { OnOk result (HasCases self.new.counts) }
     {
         let is_new = self.names.is_new(role, word);
-        let told = TokenReading {
-            ended: self.names.ends_definition(role),
-            defined: self.names.uses_defined(role, word),
-            arrow_behind: notes.arrow_behind,
-            ends: ends_between(self.bounds.lower(), notes.number),
-            number: notes.number,
-        };
-        self.splits.take(told, found, role, word)?;
         self.names.take(self.counts.halves, role, word)?;
         open_or_close(&mut self.opened, role, word)?;
         self.counts = counts_after(self.counts, is_new, role, word);
         self.bounds.take(notes.number, role, word);
         Ok(())
     }
+}
+
+/// How far the words of a text were judged.
+#[derive(Drop)]
+pub struct Judging<'a> {
+    seen: Seen<'a>,
+    splits: Splits,
+    /// How many words were judged, and how many `->` of the formula stand behind them.
+    number: usize,
+    arrows: usize,
 }
 
 fn role_at(roles: &[Due], number: usize) -> Due
@@ -175,45 +183,85 @@ fn roles_from(roles: &[Due], number: usize) -> &[Due]
     &roles[number..]
 }
 
-/// The first refused word, or none. `Err` only where memory runs out.
-pub fn judge<'a>(
-    alloc: Global,
-    words: WordList<'_, 'a>,
-    roles: &[Due],
-) -> Result<Option<Fault>, AllocError>
-    requires { length roles.now ≤ length (words_in words) }
-    ensures judged { IfOk result
-        (Judged 0 spec.nothing_seen (leaves_of roles.now (words_in words.entry))) }
-    ensures within { IfOk result (λ found. IfSome found (λ f. f.word < length roles.now)) }
-{
-    let mut seen = Seen::new(alloc);
-    let mut arrows = arrow_count(words, roles);
-    let mut found = Vec::new(alloc);
-    for number in 0..roles.len() {
-        let role = role_at(roles, number);
-        let word = words.at(number);
-        let later_words = words.from(number + 1);
-        let later_roles = roles_from(roles, number + 1);
-        let later_arrows = without(arrows, is_arrow(role, word));
-        let notes = notes_on(role, word, later_words, later_roles, later_arrows > 0);
-        seen.splits.ranges_at(&mut found, role, word)?;
-        let form = form_refusal(
-            &seen,
-            (role, word),
-            notes,
-            later_arrows > 0,
-            later_words,
-            later_roles,
-            found.as_slice(),
-        );
-        if let Some(kind) = form {
-            return Ok(Some(Fault { kind, word: number }));
+impl<'a> Judging<'a> {
+    /// Before the first word of these.
+    pub fn new(alloc: Global, words: WordList<'_, 'a>, roles: &[Due]) -> Judging<'a>
+        ensures judged { JudgedTo (leaves_of roles.now (words_in words.entry)) result }
+        ensures start { result.number ≡ 0 }
+        ensures kept { AreKept None result.splits.ranges.items }
+    {
+        let seen = Seen::new(alloc);
+        let splits = Splits::new(alloc);
+        let arrows = arrow_count(words, roles);
+        Judging {
+            seen,
+            splits,
+            number: 0,
+            arrows,
         }
-        seen.take(role, word, notes, &mut found)?;
-        if let Some(kind) = limit_refusal(&seen, role, word) {
-            return Ok(Some(Fault { kind, word: number }));
-        }
-        arrows = later_arrows;
     }
-    Ok(None)
+
+    /// Judges words up to one of this number: the first refused one, or none. The formula is that
+    /// of the words before, where it has ended. `Err` only where memory runs out; it is not to be
+    /// used on then, and not behind a refused word.
+    pub fn judge(
+        &mut self,
+        formula: Option<&Formula<'a>>,
+        words: WordList<'_, 'a>,
+        roles: &[Due],
+        end: usize,
+    ) -> Result<Option<Fault>, AllocError>
+        requires words { length roles.now ≤ length (words_in words) }
+        requires end { end ≤ length roles.now }
+        requires judged { JudgedTo (leaves_of roles.now (words_in words)) self.old }
+        requires begun { self.old.number ≤ end }
+        requires said { HoldsSaid (leaves_of roles.now (words_in words))
+            (said_if (option_copied formula)) self.old.number end }
+        requires few { HasFewCases (said_if (option_copied formula)) }
+        requires kept { AreKept (said_if (option_copied formula)) self.old.splits.ranges.items }
+        ensures refused { IfOk result (λ found. IfSome found (λ f. IsFirstFault
+            (leaves_of roles.now (words_in words.entry)) (Some f))) }
+        ensures within { IfOk result (λ found. IfSome found (λ f. f.word < length roles.now)) }
+        ensures passed { result ≡ Ok None
+            → JudgedTo (leaves_of roles.now (words_in words.entry)) self.new }
+        ensures end { result ≡ Ok None → self.new.number ≡ end }
+        ensures kept { OnOk result
+            (AreKept (said_if (option_copied formula.entry)) self.new.splits.ranges.items) }
+    {
+        for number in self.number..end {
+            let role = role_at(roles, number);
+            let word = words.at(number);
+            let later_words = words.from(number + 1);
+            let later_roles = roles_from(roles, number + 1);
+            let later_arrows = without(self.arrows, is_arrow(role, word));
+            let notes = notes_on(role, word, later_words, later_roles);
+            let bad_point = self
+                .splits
+                .is_bad_point(self.seen.counts.pieces > 0, notes.number);
+            let lacks_range = self.splits.find(formula, role, word)?;
+            let form = form_refusal(
+                &self.seen,
+                (role, word),
+                notes,
+                later_arrows > 0,
+                later_words,
+                later_roles,
+                SplitTests {
+                    lacks_range,
+                    bad_point,
+                },
+            );
+            if let Some(kind) = form {
+                return Ok(Some(Fault { kind, word: number }));
+            }
+            self.splits.take(notes.number, role);
+            self.seen.take(role, word, notes)?;
+            if let Some(kind) = limit_refusal(&self.seen, role, word) {
+                return Ok(Some(Fault { kind, word: number }));
+            }
+            self.arrows = later_arrows;
+        }
+        self.number = end;
+        Ok(None)
+    }
 }

@@ -1,6 +1,6 @@
 //! The kinds of refusals of one token, in their order.
 
-ghost use Rattle.std.specs.Prelude.{◌≡◌};
+ghost use Rattle.std.specs.Prelude.{◌≡◌, ◌≤◌, ◌*◌};
 ghost use Rattle.script_judge.specs.Judge as spec;
 
 use crate::counts::Counts;
@@ -44,9 +44,9 @@ pub fn limit_kind(
     counts: Counts,
     past_lsb: bool,
     past_pieces: bool,
-    past_cases: bool,
 ) -> Option<RefusalKind>
-    ensures { result ≡ spec.limit_kind opened halved counts past_lsb past_pieces past_cases }
+    requires { counts.cases * counts.conjunctions ≤ 128 }
+    ensures { result ≡ spec.limit_kind opened halved counts past_lsb past_pieces }
 {
     if opened > 64 {
         Some(RefusalKind::Limit(LimitKind::Nesting))
@@ -64,7 +64,7 @@ pub fn limit_kind(
         Some(RefusalKind::Limit(LimitKind::Splits))
     } else if counts.pieces > 64 || past_pieces {
         Some(RefusalKind::Limit(LimitKind::Pieces))
-    } else if past_cases {
+    } else if counts.cases * counts.conjunctions > 64 {
         Some(RefusalKind::Limit(LimitKind::Cases))
     } else {
         None

@@ -113,16 +113,6 @@ fn is_used_before_end(name: &[u8], words: WordList<'_, '_>, roles: &[Due]) -> bo
     false
 }
 
-/// The name whose definition a token ends.
-fn ended<'a>(role: Due, pending: Option<&'a [u8]>) -> Option<&'a [u8]>
-    ensures { option_copied result ≡ spec.ended role (option_copied pending.entry) }
-{
-    match role {
-        Due::Semicolon => pending,
-        _ => None,
-    }
-}
-
 /// The name whose definition is being read behind a token.
 fn pending_after<'a>(
     pending: Option<&'a [u8]>,
@@ -189,23 +179,6 @@ impl<'a> Names<'a> {
             (spec.split_name role (word_of word.entry)) }
     {
         has_some(&self.defined, split_name(role, word))
-    }
-
-    /// The name whose definition the token ends.
-    pub fn ends_definition(&self, role: Due) -> Option<&'a [u8]>
-        ensures { (names : NamesSeen) → AreNames self.now names
-            → option_copied result ≡ spec.ended role names.pending }
-    {
-        ended(role, self.pending)
-    }
-
-    /// Whether the token is an operand that has a definition.
-    pub fn uses_defined(&self, role: Due, word: Word<'a>) -> bool
-        ensures { (names : NamesSeen) → AreNames self.now names
-            → result ≡ spec.is_some_among names.defined
-            (spec.operand_name role (word_of word.entry)) }
-    {
-        has_some(&self.defined, operand_name(role, word))
     }
 
     /// Takes a token. After an `Err` it is not to be used on.

@@ -9,7 +9,6 @@ ghost use Rattle.script_words.specs.Kept.{words_in};
 ghost use Rattle.script_shape.specs.Roles.{leaves_of};
 ghost use Rattle.script_judge.specs.BoundViews.{notes_of};
 ghost use Rattle.script_judge.specs.Numbers as spec;
-ghost use Rattle.script_judge.specs.Sides.{has_arrow};
 
 use crate::bounds::bound_number;
 use literal::{LiteralFault, read_bytes};
@@ -106,27 +105,16 @@ pub struct Notes {
     pub past: bool,
     /// The number of the bound that begins with it.
     pub number: Option<Written>,
-    /// Whether a `->` of the formula stands behind it.
-    pub arrow_behind: bool,
 }
 
 /// What is noted of a token, with these words behind it.
-pub fn notes_on(
-    role: Due,
-    word: Word<'_>,
-    words: WordList<'_, '_>,
-    roles: &[Due],
-    arrow_behind: bool,
-) -> Notes
-    requires { arrow_behind ≡ has_arrow (leaves_of roles.now (words_in words)) }
+pub fn notes_on(role: Due, word: Word<'_>, words: WordList<'_, '_>, roles: &[Due]) -> Notes
     ensures tells { spec.Tells (notes_of result) role (word_of word.entry)
         (leaves_of roles.now (words_in words.entry)) }
     ensures within { IsWritten result.number }
-    ensures arrow { result.arrow_behind ≡ arrow_behind }
 {
     Notes {
         past: is_past(role, word),
         number: bound_number(role, word, words, roles),
-        arrow_behind,
     }
 }

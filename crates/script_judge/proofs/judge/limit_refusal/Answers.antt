@@ -1,10 +1,7 @@
-use Rattle.std.proofs.Common.{◌≡◌, length, ap, ◌∙◌, arith}
+use Rattle.std.proofs.Common.{◌≡◌, length, ap, arith}
 use Rattle.std.proofs.lemmas.List.{length-reverse}
 use Rattle.script_words.specs.Named.{word_of}
-use Rattle.script_cases.specs.Parts.{begun_cases}
-use Rattle.script_judge.specs.Splits.{SplitsSeen}
-use Rattle.script_judge.specs.Judge.{is_past_cases}
-use Rattle.script_judge.proofs.Judging.{limit_told}
+use Rattle.script_judge.proofs.Turns.{limit_told}
 use Rattle.script_judge.proofs.judge.limit_refusal.Goals as goal
 
 pub returns : goal.returns
@@ -12,8 +9,6 @@ returns c = λ stands h.
     let opened : c.len.result ≡ length stands.opened =
     omega (arith, ap length h.opened, length-reverse c.args.seen.now.opened.items) in
     limit_told stands c.args.role (word_of c.args.word) c.len.result c.halved.result
-    c.args.seen.now.counts c.is_past_lsb.result c.is_past_pieces.result c.is_past_cases.result
+    c.args.seen.now.counts c.is_past_lsb.result c.is_past_pieces.result
     c.limit_kind.result opened (c.halved.ensures stands.names h.names)
-    h.counts c.is_past_lsb.ensures c.is_past_pieces.ensures (c.is_past_cases.ensures
-    ∙ ap (λ (x : SplitsSeen). is_past_cases c.args.role (word_of c.args.word)
-    (begun_cases x.ranges)) h.splits) c.limit_kind.ensures
+    h.counts c.is_past_lsb.ensures c.is_past_pieces.ensures c.limit_kind.ensures
