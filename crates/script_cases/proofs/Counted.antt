@@ -4,7 +4,7 @@ use Rattle.std.specs.List.{flat_map, AllByRecursion}
 use Rattle.std.proofs.Math.Nat.{suc-mul}
 use Rattle.std.proofs.Common.{sym, ap, ◌∙◌, arith}
 use Rattle.std.proofs.lemmas.List.{length-map, length-append}
-use Rattle.script_cases.specs.Parts.{Parts, part_of, behind_arrow, begun_cases}
+use Rattle.script_cases.specs.Parts.{Parts, part_of, behind_arrow}
 use Rattle.script_cases.proofs.Lists.{all_joined, all_front, all_behind}
 use Rattle.script_cases.specs.Cases.{with_first, cases, case_count, all_items}
 
@@ -33,6 +33,10 @@ count_joined : {X : Type 0} (a b : List (List (List X)))
 count_joined [] b = sym (Rattle.std.proofs.Math.Nat.one-mul (case_count b))
 count_joined (p ∷ a) b = ap (λ n. length p * n) (count_joined a b) ∙ sym
     (Rattle.std.proofs.Math.Nat.mul_assoc (length p) (case_count a) (case_count b))
+
+-- how many cases there are with the conjunctions that have begun
+abbrev pub begun_cases : {X : Type 0} → Parts X → ℕ
+begun_cases p = case_count p.before * suc (length p.ended)
 
 -- An arrow makes no more cases than had begun.
 pub arrow_begins : {X : Type 0} (p : Parts X) → begun_cases (behind_arrow p) ≡ begun_cases p

@@ -8,4 +8,3 @@ pub mod Counts
 pub mod Lists
 pub mod MetLaws
 pub mod Counted
-pub mod Mapped

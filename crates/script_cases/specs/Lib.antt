@@ -4,5 +4,4 @@ pub mod Met
 pub mod Gaps
 pub mod Marks
 pub mod Choice
-pub mod Mapped
 pub mod Examples

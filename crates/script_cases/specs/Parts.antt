@@ -1,6 +1,5 @@
 -- Parts that are being read from the left.
-use Rattle.std.specs.Prelude.{ℕ, suc, ◌*◌, List, [], ◌∷◌, ◌++◌, length}
-use Rattle.script_cases.specs.Cases.{case_count}
+use Rattle.std.specs.Prelude.{List, [], ◌∷◌, ◌++◌}
 
 -- The items so far, the parts that have ended, and of the part in hand the conjunctions that have
 -- ended, and the one in hand.
@@ -39,7 +38,3 @@ behind_arrow p = record {
   ended = [];
   last = [];
 }
-
--- how many cases there are with the conjunctions that have begun
-abbrev pub begun_cases : {X : Type 0} → Parts X → ℕ
-begun_cases p = case_count p.before * suc (length p.ended)

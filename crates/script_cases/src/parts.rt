@@ -1,5 +1,5 @@
 // Conjunctions and parts over one list of items.
-ghost use Rattle.std.specs.Prelude.{◌≡◌, ◌⊎◌, nat_lt, ◌<◌, ◌≤◌, ◌++◌, [], Some, length, slice_get};
+ghost use Rattle.std.specs.Prelude.{◌≡◌, ◌⊎◌, ◌<◌, ◌≤◌, ◌++◌, [], Some, length, slice_get};
 ghost use Rattle.std.specs.Prelude.{get_or, IfOk, OnOk, OnErr};
 ghost use Rattle.std.specs.List.{AllByRecursion, flat_map};
 ghost use Rattle.script_cases.specs.Cases.{cases, case_count};
@@ -122,14 +122,6 @@ impl<T: Copy> Parts<T> {
         self.items.as_slice()
     }
 
-    /// How many conjunctions of the part in hand have ended.
-    pub fn ended_count(&self) -> usize
-        ensures { result ≡ length self.now.ended }
-    {
-        let parts = self.parts.as_slice();
-        self.ends.len() - start_at(parts, parts.len())
-    }
-
     /// How many cases there are of the parts that have ended, where they are few.
     pub fn case_count(&self) -> usize
         requires { case_count self.now.before ≤ 64 }
@@ -137,16 +129,6 @@ impl<T: Copy> Parts<T> {
         ensures some { 0 < result }
     {
         product(self.parts.as_slice())
-    }
-
-    /// Whether the conjunctions that have begun make more than 64 cases.
-    pub fn has_too_many_cases(&self) -> bool
-        requires { case_count self.now.before ≤ 64 }
-        ensures { result ≡ nat_lt 64 (spec.begun_cases self.now) }
-    {
-        let count = self.case_count();
-        let ended = self.ended_count();
-        ended >= 64 || count * (ended + 1) > 64
     }
 
     /// The conjunctions that the case with this number takes, of the parts that have ended.
