@@ -286,10 +286,6 @@ definition_counts reads (names_operator n o) rest ops k seen last m p kept b =
         kept = record {
           operators = operators_more ops seen.names.defined last.names.defined text
               kept.operators counted.defined;
-          subject = old.subject;
-          aliases = old.aliases;
-          ranges = old.ranges;
-          filled = old.filled;
           cases = old.cases;
           nodes = old.nodes;
         };

@@ -125,6 +125,6 @@ script_goals (define x rest) k seen last p within =
     script_goals rest (definition_value x k) both.0 last both.2 behind
 
 pub goals_are_few : GoalsAreFew
-goals_are_few tree k j =
-    let all = passes_all (script_leaves tree) 0 nothing_seen j in
-    script_goals tree k nothing_seen all.0 all.1 none_within
+goals_are_few tree k said j =
+    let all = passes_all (script_leaves tree) 0 (nothing_seen said) j in
+    script_goals tree k (nothing_seen said) all.0 all.1 (none_within said)

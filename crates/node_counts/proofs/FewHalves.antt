@@ -1,7 +1,7 @@
 -- A script that the judge lets pass halves few variables: no more numbers than names.
 use Rattle.std.proofs.Common.{◌≡◌, ◌+◌, ◌≤◌, List, [], ◌∷◌, ◌++◌, length, None, Some, Bool, true}
 use Rattle.std.proofs.Common.{false, not, ◌||◌, if◌then◌else◌, refl, sym, ap, ◌∙◌, subst, arith}
-use Rattle.std.proofs.Common.{length-append, eq-eqb, ◌⊎◌, inl, inr}
+use Rattle.std.proofs.Common.{length-append, eq-eqb, Option, ◌⊎◌, inl, inr}
 use Rattle.std.specs.List.{AllByRecursion, list_any}
 use Rattle.std.specs.Str.{bytes_eq}
 use Rattle.std.proofs.lemmas.Slice.Eq.{bytes_eq-Decides}
@@ -28,6 +28,7 @@ use Rattle.script_shape.specs.Roles.{how_leaves, definition_leaves, script_leave
 use Rattle.script_shape.proofs.Inner.{EachRole, IsInner, each_of_both, each_as, name_roles}
 use Rattle.script_shape.proofs.Inner.{operator_roles, expr_inner}
 use Rattle.script_judge.specs.Names.{Name, is_among, split_name, halved_after}
+use Rattle.script_judge.specs.Said.{Said}
 use Rattle.script_judge.specs.Numbers.{Notes}
 use Rattle.script_judge.specs.Judge.{Seen, seen_after, form_refusal, limit_refusal, Judged}
 use Rattle.script_judge.specs.Judge.{nothing_seen}
@@ -58,7 +59,7 @@ all_few (l ∷ ls) seen last p h =
     let limits = both_none (form_refusal p.0 seen l.role l.word (has_arrow p.1) p.1)
     (limit_refusal after l.role l.word) p.2 in
     all_few ls after last p.3
-    (limits_hold _ (length after.names.halved) after.counts _ _ _ limits.1).halved
+    (limits_hold _ (length after.names.halved) after.counts _ _ limits.1).halved
 
 -- ---- the names that are halved have numbers among those that are
 
@@ -411,12 +412,13 @@ script_halves (define x rest) seen last p clean few =
     script_halves rest both.0 last both.2
     (quiet_halved (definition_leaves x) seen both.0 (definition_quiet x) both.1 ∙ clean) few
 
-halves_pass : (tree : Script) → Judged 0 nothing_seen (script_leaves tree) None
-    → HalvesPass (hints_of tree)
-halves_pass tree j =
-    let all = passes_all (script_leaves tree) 0 nothing_seen j in
-    script_halves tree nothing_seen all.0 all.1 refl
-    (all_few (script_leaves tree) nothing_seen all.0 all.1 (omega arith))
+halves_pass : (tree : Script) (said : Option Said)
+    → Judged 0 (nothing_seen said) (script_leaves tree) None → HalvesPass (hints_of tree)
+halves_pass tree said j =
+    let start = nothing_seen said in
+    let all = passes_all (script_leaves tree) 0 start j in
+    script_halves tree start all.0 all.1 refl
+    (all_few (script_leaves tree) start all.0 all.1 (omega arith))
 
 behind_few : (tree : Script) (k : Known) → HalvesPass (hints_of tree)
     → length (hints_behind tree k).halves ≤ 4
@@ -430,6 +432,7 @@ behind_few (formula f h) k p =
     omega arith
 behind_few (define x rest) k p = behind_few rest (definition_value x k) p
 
-pub halves_are_few : (tree : Script) (k : Known) → Judged 0 nothing_seen (script_leaves tree) None
+pub halves_are_few : (tree : Script) (k : Known) (said : Option Said)
+    → Judged 0 (nothing_seen said) (script_leaves tree) None
     → length (hints_behind tree k).halves ≤ 4
-halves_are_few tree k j = behind_few tree k (halves_pass tree j)
+halves_are_few tree k said j = behind_few tree k (halves_pass tree said j)

@@ -1,6 +1,6 @@
 -- A script that the judge lets pass has few hints.
 use Rattle.std.proofs.Common.{◌≡◌, ℕ, ◌+◌, ◌≤◌, nat_lt, List, [], ◌∷◌, length, None, Bool, refl, ap}
-use Rattle.std.proofs.Common.{subst, arith, le_refl}
+use Rattle.std.proofs.Common.{Option, subst, arith, le_refl}
 use Rattle.std.proofs.lemmas.Bool.{ltb-false, or_parts}
 use Rattle.script_words.specs.declared.class.Symbol.TheVariants as s
 use Rattle.script_words.specs.Words.{sign}
@@ -14,6 +14,7 @@ use Rattle.script_shape.specs.Roles.{hint_leaves, hints_leaves, definition_leave
 use Rattle.script_judge.specs.declared.counts.Counts.{Counts}
 use Rattle.script_judge.specs.declared.counts.ScriptPart.TheVariants as place
 use Rattle.script_judge.specs.Counts.{one_if, begins_hint, place_after}
+use Rattle.script_judge.specs.Said.{Said}
 use Rattle.script_judge.specs.Judge.{Seen, seen_after, form_refusal, limit_kind, limit_refusal}
 use Rattle.script_judge.specs.Judge.{Judged, nothing_seen}
 use Rattle.script_judge.proofs.JudgeLaws.{fails, both_none}
@@ -39,9 +40,9 @@ pub record AreWithin (n : ℕ) (c : Counts) : Type 0 where
   pub halved : n ≤ 4
   pub pieces : c.pieces ≤ 64
 
-pub limits_hold : (opened halved : ℕ) (c : Counts) (lsb past cases : Bool)
-    → limit_kind opened halved c lsb past cases ≡ None → AreWithin halved c
-limits_hold opened halved c lsb past cases h =
+pub limits_hold : (opened halved : ℕ) (c : Counts) (lsb past : Bool)
+    → limit_kind opened halved c lsb past ≡ None → AreWithin halved c
+limits_hold opened halved c lsb past h =
     let nesting = fails (nat_lt 64 opened) _ _ h in
     let definitions = fails (nat_lt 256 c.definitions) _ _ nesting.1 in
     let propositions = fails (nat_lt 128 c.propositions) _ _ definitions.1 in
@@ -65,7 +66,7 @@ all_within (l ∷ ls) seen last p h =
     let after = seen_after p.0 seen l.role l.word in
     let limits = both_none (form_refusal p.0 seen l.role l.word (has_arrow p.1) p.1)
     (limit_refusal after l.role l.word) p.2 in
-    let holds = limits_hold _ (length after.names.halved) after.counts _ _ _ limits.1 in
+    let holds = limits_hold _ (length after.names.halved) after.counts _ _ limits.1 in
     all_within ls after last p.3 (record {
       propositions = holds.propositions;
       hints = holds.hints;
@@ -173,16 +174,16 @@ script_passes (define x rest) seen last p within =
     (all_within (definition_leaves x) seen both.0 both.1 within)
 
 -- before the first word
-pub none_within : IsWithin nothing_seen
-none_within = record {
+pub none_within : (said : Option Said) → IsWithin (nothing_seen said)
+none_within said = record {
   propositions = omega arith;
   hints = omega arith;
   splits = omega arith;
   pieces = omega arith;
 }
 
-pub hints_pass : (tree : Script) → Judged 0 nothing_seen (script_leaves tree) None
-    → HintsPass (hints_of tree)
-hints_pass tree j =
-    let all = passes_all (script_leaves tree) 0 nothing_seen j in
-    script_passes tree nothing_seen all.0 all.1 none_within
+pub hints_pass : (tree : Script) (said : Option Said)
+    → Judged 0 (nothing_seen said) (script_leaves tree) None → HintsPass (hints_of tree)
+hints_pass tree said j =
+    let all = passes_all (script_leaves tree) 0 (nothing_seen said) j in
+    script_passes tree (nothing_seen said) all.0 all.1 (none_within said)

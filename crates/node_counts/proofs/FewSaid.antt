@@ -152,8 +152,8 @@ script_said (formula f l) k h four all =
 script_said (define x rest) k h four all = script_said rest (definition_value x k) h four all
 
 pub hints_are_few : HintsAreFew
-hints_are_few tree k j =
-    let p = hints_pass tree j in
+hints_are_few tree k said j =
+    let p = hints_pass tree said j in
     let l = hints_of tree in
     let within = all_within _ p.before p.behind p.passes p.within in
     let a = hints_counted l p.before p.behind p.passes p.place in
@@ -164,4 +164,4 @@ hints_are_few tree k j =
       hints = omega (arith, a, c);
       cuts = omega (arith, b, d);
       few = hints_few l p.before p.behind p.passes p.within;
-    }) (halves_are_few tree k j) (order_is_short tree k)
+    }) (halves_are_few tree k said j) (order_is_short tree k)

@@ -1,28 +1,23 @@
-mod InParts
 mod There
+mod Numbers
+mod Stays
 mod Marks
 mod Sizes
 mod Weights
 mod Kept
 mod Passing
-mod WordRoles
+pub mod WordRoles
 mod ExpressionCounts
 mod DefinitionCounts
 mod FormulaCounts
 mod HintCounts
 mod ScriptCounts
 mod Places
-mod FewHints
+pub mod FewHints
 mod FewCuts
 mod FewSaid
 mod FewGoals
-mod Numbers
 mod FewHalves
 mod FewOrdered
-mod Told
-mod Plain
-mod Subjects
-mod Aliases
-mod BoundRanges
-mod PropRanges
+mod FormulaCases
 mod HintRanges

@@ -1,8 +1,11 @@
 -- The number of a name stays, whatever is read.
 use Rattle.std.proofs.Common.{◌≡◌, ℕ, List, [], ◌∷◌, ◌++◌, Option, Some, None, Bool, true, false}
+use Rattle.std.proofs.Common.{◌||◌}
 use Rattle.std.proofs.Common.{if◌then◌else◌, refl, sym, ap, ◌∙◌, subst}
-use Rattle.std.specs.List.{list_any, position_or_len}
+use Rattle.std.specs.List.{list_any, position, position_or_len}
+use Rattle.std.specs.Option.{is_some}
 use Rattle.std.specs.Str.{bytes_eq}
+use Rattle.std.proofs.lemmas.Bool.{and_from, or_right}
 use Rattle.fx_model.specs.declared.Rounding.{Rounding}
 use Rattle.fx_model.specs.declared.ExprId.{ExprId}
 use Rattle.fx_model.specs.declared.Node.{Node}
@@ -13,10 +16,12 @@ use Rattle.script_shape.specs.Expressions.{Expr, term, sum, difference, Term, fa
 use Rattle.script_shape.specs.Expressions.{quotient, Factor, negation, atom, Atom, number, variable}
 use Rattle.script_shape.specs.Expressions.{parenthesized, absolute, called, rounded, fused}
 use Rattle.script_nodes.specs.Known.{Name, Known, PlacedNode, entry_of, put, variables_with}
-use Rattle.script_nodes.specs.Known.{variable_put, name_put, named}
+use Rattle.script_nodes.specs.Known.{variable_put, name_put, named, node_at, value_or_node}
+use Rattle.script_nodes.specs.Known.{number_of}
 use Rattle.script_nodes.specs.Values.{then_rounded, fused_sum, expr_value, term_value, factor_value}
 use Rattle.script_nodes.specs.Values.{atom_value}
 use Rattle.node_counts.proofs.There.{past, stays, joins, any_before, node_stays, node_joins, absent}
+use Rattle.node_counts.proofs.There.{found_place, no_place, is_there, variable_there}
 use Rattle.node_counts.proofs.There.{found, has_node, name_joins, same_place}
 
 -- ---- the number of a name
@@ -34,6 +39,52 @@ pub record IsVariable (k : Known) (text : Name) (x : ExprId) : Type 0 where
 pub data HasNumber (k : Known) (text : Name) (x : ExprId) : Type 0 where
   by_value : entry_of k.values text ≡ Some x → HasNumber k text x
   by_variable : IsVariable k text x → HasNumber k text x
+
+-- a place that there is
+place_found : {A : Type 0} (p : A → Bool) (xs : List A) (i : ℕ) → position p xs ≡ Some i
+    → (list_any p xs ≡ true) × (position_or_len p xs ≡ i)
+place_found p xs i e = by_test (list_any p xs) refl
+  where
+    by_test : (b : Bool) → list_any p xs ≡ b → (list_any p xs ≡ true) × (position_or_len p xs ≡ i)
+    by_test true h = (h, cc (sym (found_place p xs h) ∙ e))
+    by_test false h = absurd (cc (sym (no_place p xs h) ∙ e))
+
+pub number_has : (k : Known) (text : Name) (x : ExprId) → number_of k text ≡ Some x
+    → HasNumber k text x
+number_has k text x e = by_entry (entry_of k.values text) refl e
+  where
+    at : Option ℕ
+    at = position (bytes_eq text) k.variables
+
+    by_node : (none : entry_of k.values text ≡ None) (i : ℕ) → at ≡ Some i → (b : Bool)
+        → has_node k.nodes (Var i) ≡ b → place_of k.nodes (Var i) ≡ Some x → HasNumber k text x
+    by_node none i p true h q =
+        let f = place_found (bytes_eq text) k.variables i p in
+        by_variable (record {
+          none = none;
+          among = f.0;
+          there = ap (λ n. has_node k.nodes (Var n)) f.1 ∙ h;
+          at = cc (sym q ∙ found k.nodes (Var i) h)
+              ∙ ap (λ n. record { 0 = position_or_len (same_node (Var n)) k.nodes }) (sym f.1);
+        })
+    by_node none i p false h q = absurd (cc (sym (absent k.nodes (Var i) h) ∙ q))
+
+    by_place : entry_of k.values text ≡ None → (o : Option ℕ) → at ≡ o
+        → node_at k.nodes o ≡ Some x → HasNumber k text x
+    by_place none None p q = absurd (cc q)
+    by_place none (Some i) p q = by_node none i p (has_node k.nodes (Var i)) refl q
+
+    by_entry : (o : Option ExprId) → entry_of k.values text ≡ o
+        → value_or_node o (node_at k.nodes at) ≡ Some x → HasNumber k text x
+    by_entry (Some y) h q = by_value (h ∙ q)
+    by_entry None h q = by_place h at refl q
+
+pub number_there : (k : Known) (text : Name) (x : ExprId) → HasNumber k text x
+    → is_there k text ≡ true
+number_there k text x (by_value e) =
+    ap (λ o. is_some o || variable_there k.nodes k.variables text) e
+number_there k text x (by_variable v) = or_right (is_some (entry_of k.values text)) _
+    (and_from (list_any (bytes_eq text) k.variables) _ v.among v.there)
 
 -- what has a number keeps it
 abbrev pub Keeps : Known → Known → Type 0

@@ -1,6 +1,6 @@
 -- Words that the judge lets pass.
-use Rattle.std.proofs.Common.{◌≡◌, ℕ, ◌≤◌, List, [], ◌∷◌, ◌++◌, Option, None, refl, ◌∙◌, subst}
-use Rattle.std.proofs.Common.{arith, le_refl, le_trans}
+use Rattle.std.proofs.Common.{◌≡◌, ℕ, ◌≤◌, List, [], ◌∷◌, ◌++◌, Option, Some, None, refl, sym}
+use Rattle.std.proofs.Common.{ap, ◌∙◌, subst, arith, le_refl, le_trans}
 use Rattle.script_words.specs.Words.{Word}
 use Rattle.script_shape.specs.declared.due.Due.{Due}
 use Rattle.script_shape.specs.declared.due.Due.TheVariants as d
@@ -10,6 +10,7 @@ use Rattle.script_judge.specs.declared.fault.Fault.{Fault}
 use Rattle.script_judge.specs.Names.{Name}
 use Rattle.script_judge.specs.Numbers.{Notes}
 use Rattle.script_judge.specs.Judge.{Seen, seen_after, refusal_at, Judged, refused, passed}
+use Rattle.script_judge.specs.Judging.{Passed, none, more}
 use Rattle.node_counts.proofs.Kept.{IsKept, kept_after}
 
 -- the judge lets the words pass from one place to another
@@ -18,31 +19,6 @@ Passes seen [] last = seen ≡ last
 Passes seen (l ∷ ls) last =
     (v : Notes) × (behind : List Leaf) × (refusal_at v seen l.role l.word behind ≡ None)
     × Passes (seen_after v seen l.role l.word) ls last
-
--- words that pass, and others behind them
-pub record PassesFirst (seen : Seen) (a b : List Leaf) : Type 0 where
-  pub last : Seen
-  pub index : ℕ
-  pub passes : Passes seen a last
-  pub rest : Judged index last b None
-
-passes_found : (a b : List Leaf) {i : ℕ} {seen : Seen} {found : Option Fault}
-    → Judged i seen (a ++ b) found → found ≡ None → PassesFirst seen a b
-passes_found [] b {i} {seen} j e =
-    record { last = seen; index = i; passes = refl; rest = subst (Judged i seen b) e j }
-passes_found (l ∷ a) b (refused t r) e = absurd (cc e)
-passes_found (l ∷ a) b (passed {v = v} t r j) e =
-    let more = passes_found a b j e in
-    record {
-      last = more.last;
-      index = more.index;
-      passes = (v, a ++ b, r, more.passes);
-      rest = more.rest;
-    }
-
-pub passes_first : (a b : List Leaf) (i : ℕ) (seen : Seen)
-    → Judged i seen (a ++ b) None → PassesFirst seen a b
-passes_first a b i seen j = passes_found a b j refl
 
 pub passes_all : (a : List Leaf) (i : ℕ) (seen : Seen) → Judged i seen a None
     → (last : Seen) × Passes seen a last
@@ -61,6 +37,17 @@ passes_both [] b seen last p = (seen, refl, p)
 passes_both (l ∷ a) b seen last p =
     let more = passes_both a b (seen_after p.0 seen l.role l.word) last p.3 in
     (more.0, (p.0, p.1, p.2, more.1), more.2)
+
+-- of leaves that pass with others behind them
+pub passes_of : (a b : List Leaf) {seen last : Seen} → Passed seen a b last → Passes seen a last
+passes_of [] b none = refl
+passes_of (l ∷ a) b (more {v = v} t r p) = (v, a ++ b, r, passes_of a b p)
+
+-- what the formula says stays
+pub passes_said : (ls : List Leaf) (seen last : Seen) → Passes seen ls last
+    → last.said ≡ seen.said
+passes_said [] seen last p = ap (λ (x : Seen). x.said) (sym p)
+passes_said (l ∷ ls) seen last p = passes_said ls (seen_after p.0 seen l.role l.word) last p.3
 
 -- what the judge keeps
 pub passes_kept : (ops : List Name) (ls : List Leaf) (seen last : Seen) → Passes seen ls last

@@ -1,5 +1,5 @@
 -- A script that the judge lets pass has few nodes.
-use Rattle.std.proofs.Common.{◌≡◌, ℕ, ◌≤◌, List, [], ◌∷◌, ◌++◌, length, None, refl, sym, subst}
+use Rattle.std.proofs.Common.{◌≡◌, ◌≤◌, List, [], ◌∷◌, ◌++◌, length, Some, refl, sym, ◌∙◌, subst}
 use Rattle.std.proofs.Common.{arith, append_assoc, append-nil}
 use Rattle.script_words.specs.declared.class.Symbol.TheVariants as s
 use Rattle.script_words.specs.Words.{sign}
@@ -12,17 +12,17 @@ use Rattle.script_shape.specs.ShapeLaw.{RolesAreUnique}
 use Rattle.script_shape.specs.Roles.{LeavesSpell, Leaf, at, formula_leaves, hints_leaves}
 use Rattle.script_shape.specs.Roles.{definition_leaves, script_leaves}
 use Rattle.script_judge.specs.Names.{Name}
-use Rattle.script_judge.specs.Judge.{Seen, nothing_seen, seen_after, Judged}
+use Rattle.script_judge.specs.Said.{said_from}
+use Rattle.script_judge.specs.Judge.{Seen, nothing_seen, seen_after}
 use Rattle.script_nodes.specs.Known.{Known, nothing_known}
 use Rattle.script_nodes.specs.Definitions.{definition_value}
 use Rattle.script_nodes.specs.ReadingLaw.{ReadsTrees}
-use Rattle.script_claims.specs.Claims.{formula_claims}
 use Rattle.script_claims.specs.Reads.{then_brace, ReadsFormulas}
 use Rattle.script_hints.specs.ReadingLaw.{ReadsHints}
 use Rattle.node_counts.specs.Counted.{known_behind, NodesAreCounted}
 use Rattle.node_counts.proofs.Marks.{Marked, calm_words, script_marked}
 use Rattle.node_counts.proofs.Kept.{IsKept, kept_after}
-use Rattle.node_counts.proofs.Passing.{Passes, passes_first, passes_all, passes_both, passes_kept}
+use Rattle.node_counts.proofs.Passing.{Passes, passes_of, passes_both, passes_said, passes_kept}
 use Rattle.node_counts.proofs.DefinitionCounts.{IsBetween, definition_counts}
 use Rattle.node_counts.proofs.FormulaCounts.{braced_body, formula_counts}
 use Rattle.node_counts.proofs.HintCounts.{hints_body, hints_counts}
@@ -35,9 +35,9 @@ module _ (trees : ReadsTrees) (formulas : ReadsFormulas) (hints : ReadsHints) wh
   body_fits : (ops : List Name) (f : Formula) (h : Hints) (k : Known) (seen last : Seen)
       → Marked ops nothing (then_brace f [] ++ hints_leaves h)
       → Passes seen (then_brace f [] ++ hints_leaves h) last
-      → IsKept ops seen → IsBetween ops seen k
-      → length (known_behind (formula f h) k).nodes ≤ 512
-  body_fits ops f h k seen last m p kept b =
+      → seen.said ≡ Some (said_from (formula f h) k) → IsKept ops seen
+      → IsBetween ops seen k → length (known_behind (formula f h) k).nodes ≤ 512
+  body_fits ops f h k seen last m p e kept b =
       let first = calm_words ops (then_brace f []) (hints_leaves h) nothing tt (braced_body f) m in
       let claims = first.2 in
       let second = calm_words ops (hints_leaves h) [] first.0 first.1 (hints_body h)
@@ -46,46 +46,38 @@ module _ (trees : ReadsTrees) (formulas : ReadsFormulas) (hints : ReadsHints) wh
       let both = passes_both (then_brace f []) (hints_leaves h) seen last p in
       let mid = both.0 in
       let fine = passes_kept ops (then_brace f []) seen mid both.1 kept in
-      let behind = hints_counts hints ops h (formula_claims f k).known mid last hinted.free both.2
-      fine (formula_counts formulas ops f k seen mid claims.free both.1 b) in
+      let behind = hints_counts hints ops (said_from (formula f h) k) h mid last hinted.free both.2
+      (passes_said (then_brace f []) seen mid both.1 ∙ e)
+      (formula_counts formulas ops f k seen mid claims.free both.1 b) in
       let end = passes_kept ops (hints_leaves h) mid last both.2 fine in
       let a = behind.within in
       let n = end.nodes in
       omega arith
 
-  script_fits : (tree : Script) (ops : List Name) (k : Known) (i : ℕ) (seen : Seen)
-      → Marked ops nothing (script_leaves tree) → Judged i seen (script_leaves tree) None
+  script_fits : (tree : Script) (ops : List Name) (k : Known) (seen last : Seen)
+      → Marked ops nothing (script_leaves tree) → Passes seen (script_leaves tree) last
+      → seen.said ≡ Some (said_from tree k)
       → IsKept ops seen → IsBetween ops seen k → length (known_behind tree k).nodes ≤ 512
-  script_fits (formula f h) ops k i seen m j kept b =
-      let all = passes_all (script_leaves (formula f h)) i seen j in
-      let p = all.1 in
+  script_fits (formula f h) ops k seen last m p e kept b =
       let next = seen_after p.0 seen d.Script (sign s.OpenBrace) in
       let t = b.within in
       let start : IsBetween ops next k = record { pending = b.pending; within = omega arith } in
       let ls : then_brace f (hints_leaves h) ≡ then_brace f [] ++ hints_leaves h = sym (append_assoc
       (formula_leaves f) (at d.CloseBrace (sign s.CloseBrace) ∷ []) (hints_leaves h)) in
-      body_fits ops f h k next all.0 (subst (Marked ops nothing) ls m.2)
-      (subst (λ ls. Passes next ls all.0) ls p.3)
+      body_fits ops f h k next last (subst (Marked ops nothing) ls m.2)
+      (subst (λ ls. Passes next ls last) ls p.3) e
       (kept_after ops p.0 seen d.Script (sign s.OpenBrace) p.1 p.2 kept) start
-  script_fits (define x rest) ops k i seen m j kept b =
-      let first = passes_first (definition_leaves x) (script_leaves rest) i seen j in
+  script_fits (define x rest) ops k seen last m p e kept b =
+      let both = passes_both (definition_leaves x) (script_leaves rest) seen last p in
       let defined = definition_counts trees x
-      (script_leaves rest) ops k seen first.last m first.passes kept b in
+      (script_leaves rest) ops k seen both.0 m both.1 kept b in
       let d = defined.1 in
-      script_fits rest defined.0
-      (definition_value x k) first.index first.last d.marked first.rest d.kept d.between
+      script_fits rest defined.0 (definition_value x k) both.0 last d.marked both.2
+      (passes_said (definition_leaves x) seen both.0 both.1 ∙ e) d.kept d.between
 
   pub nodes_are_counted : LeavesSpell → RolesAreUnique → NodesAreCounted
-  nodes_are_counted spell once text tokens tree e j =
-      script_fits tree [] nothing_known 0 nothing_seen
-      (script_marked spell once text tokens tree e) j
-      (record {
-        operators = λ n h. cc h;
-        subject = tt;
-        aliases = tt;
-        ranges = record { before = tt; ended = tt; last = tt };
-        filled = tt;
-        cases = omega arith;
-        nodes = omega arith;
-      })
+  nodes_are_counted spell once text tokens tree behind last e p =
+      script_fits tree [] nothing_known (nothing_seen (Some (said_from tree nothing_known))) last
+      (script_marked spell once text tokens tree e) (passes_of (script_leaves tree) behind p) refl
+      (record { operators = λ n h. cc h; cases = omega arith; nodes = omega arith })
       (record { pending = refl; within = omega arith })

@@ -125,9 +125,12 @@ module _ (ops names : List Name) (k : Known) (text : Name) (free : is_among ops 
           let b = rest_less in omega (arith, ap (λ t. one_if (not t)) now_settled)
       by_settled false e = by_among (is_among names text) refl e
 
-  -- it is one of them
-  pub again_size : is_among names text ≡ true → size ops names behind ≤ size ops names k
-  again_size m = let a = named_size in omega (arith, ap (λ t. one_if (not t)) m)
+-- a name that is there is read
+pub there_size : (ops names : List Name) (k : Known) (text : Name) → is_there k text ≡ true
+    → size ops names (named k text).0 ≤ size ops names k
+there_size ops names k text h =
+    let a = named_same k text h in
+    let b = later_less ops k (named k text).0 (named_later k text) names in omega arith
 
 -- ---- a definition ends
 

@@ -2,7 +2,7 @@
 use Rattle.std.proofs.Common.{◌≡◌, suc, ◌+◌, ◌<◌, ◌≤◌, List, [], ◌∷◌, ◌++◌, length, Option, Some}
 use Rattle.std.proofs.Common.{None, Bool, true, false, not, cond, ◌&&◌, ◌||◌, if◌then◌else◌, refl}
 use Rattle.std.proofs.Common.{sym, ap, ◌∙◌, nat_lt, arith, le_refl, lt-ltb, le-ltb, length-append}
-use Rattle.std.specs.List.{list_any, position_or_len}
+use Rattle.std.specs.List.{list_any, position, position_or_len}
 use Rattle.std.specs.Option.{is_some}
 use Rattle.std.specs.Str.{bytes_eq}
 use Rattle.std.proofs.lemmas.List.Folds.{list_any-append}
@@ -69,6 +69,16 @@ module _ {A : Type 0} (p : A → Bool) where
           → (b || list_any p (xs ++ y ∷ [])) ≡ true
       by_test true h = refl
       by_test false h = h
+
+  -- the place of the first that passes
+  pub found_place : (xs : List A) → list_any p xs ≡ true
+      → position p xs ≡ Some (position_or_len p xs)
+  found_place xs h = ap (λ b. cond b (Some (position_or_len p xs)) None) (lt-ltb _ _ (within xs h))
+
+  pub no_place : (xs : List A) → list_any p xs ≡ false → position p xs ≡ None
+  no_place xs h = ap (λ i. cond (nat_lt i (length xs)) (Some i) None) (past xs h)
+      ∙ ap (λ b. cond b (Some (length xs)) None)
+      (le-ltb (length xs) (length xs) (le_refl (length xs)))
 
 -- ---- nodes
 

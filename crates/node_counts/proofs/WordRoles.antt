@@ -1,5 +1,5 @@
--- The roles of the words of propositions and hints. What else holds of all such roles follows by
--- `each_as`.
+-- The roles of the words of definitions, propositions and hints. What else holds of all such roles
+-- follows by `each_as`.
 use Rattle.std.proofs.Common.{◌++◌, List}
 use Rattle.script_words.specs.declared.class.Spelled.TheVariants as spelled
 use Rattle.script_shape.specs.declared.due.Due.{Due}
@@ -12,12 +12,56 @@ use Rattle.script_shape.specs.Hints.{last_need, more_needs, Needs, always, provi
 use Rattle.script_shape.specs.Hints.{last_point, more_points, CutForm, in_four, pieces, at_points}
 use Rattle.script_shape.specs.Hints.{Names, last_name, more_names, Halving, halved_by, with_goal}
 use Rattle.script_shape.specs.Hints.{Hint, rewrite, like, split, halving}
+use Rattle.script_shape.specs.Tree.{How, exactly, rounded_by, rounded_apart, rounded_joined}
+use Rattle.script_shape.specs.Tree.{Definition, names_operator, names_value}
+use Rattle.script_shape.specs.Roles.{operator_leaves, how_leaves, definition_leaves}
 use Rattle.script_shape.specs.Roles.{Leaf, special_leaves, whole_leaves, bound_leaves, expr_leaves}
 use Rattle.script_shape.specs.Roles.{range_leaves, prop_leaves, name_leaves, need_leaves}
 use Rattle.script_shape.specs.Roles.{need_list_leaves, needs_leaves, points_leaves, cut_leaves}
 use Rattle.script_shape.specs.Roles.{names_leaves, halving_leaves, hint_leaves}
 use Rattle.script_shape.proofs.Inner.{EachRole, IsInner, each_of_both, each_as, name_roles}
-use Rattle.script_shape.proofs.Inner.{special_roles, digits_roles, bound_roles, expr_inner}
+use Rattle.script_shape.proofs.Inner.{special_roles, digits_roles, bound_roles, operator_roles}
+use Rattle.script_shape.proofs.Inner.{expr_inner}
+
+-- ---- definitions
+
+-- what may be due in a definition
+abbrev pub IsOfDefinition : Due → Type 0
+IsOfDefinition d.Connective = ⊥
+IsOfDefinition d.CloseBrace = ⊥
+IsOfDefinition d.SplitName = ⊥
+IsOfDefinition r = Unit {0}
+
+inner_definition : (r : Due) → IsInner r → IsOfDefinition r
+inner_definition d.Connective h = absurd h
+inner_definition d.CloseBrace h = absurd h
+inner_definition d.SplitName h = absurd h
+inner_definition r h = tt
+
+how_roles : (h : How) → EachRole IsOfDefinition (how_leaves h)
+how_roles exactly = (tt, tt)
+how_roles (rounded_by k t) = (tt, (tt, tt))
+how_roles (rounded_apart o) = each_of_both IsOfDefinition (operator_leaves d.DefinedBy o) _
+    (operator_roles IsOfDefinition d.DefinedBy o tt inner_definition) (tt, (tt, tt))
+how_roles (rounded_joined o) = each_of_both IsOfDefinition (operator_leaves d.DefinedBy o) _
+    (operator_roles IsOfDefinition d.DefinedBy o tt inner_definition) (tt, tt)
+
+pub definition_roles : (x : Definition) → EachRole IsOfDefinition (definition_leaves x)
+definition_roles (names_operator n o) = (
+  tt,
+  each_of_both IsOfDefinition (name_leaves d.NewName n) _
+      (name_roles IsOfDefinition d.NewName n tt) (
+        tt,
+        each_of_both IsOfDefinition (operator_leaves d.Operator o) _
+            (operator_roles IsOfDefinition d.Operator o tt inner_definition) (tt, (tt, tt)),
+      ),
+)
+definition_roles (names_value n h e) =
+    each_of_both IsOfDefinition (name_leaves d.Script n) _
+    (name_roles IsOfDefinition d.Script n tt)
+    (each_of_both IsOfDefinition (how_leaves h) _ (how_roles h)
+    (each_of_both IsOfDefinition (expr_leaves e) _
+    (each_as IsInner IsOfDefinition inner_definition (expr_leaves e) (expr_inner e)) (tt, tt)))
 
 -- ---- propositions
 

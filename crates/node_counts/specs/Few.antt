@@ -1,7 +1,8 @@
 -- The hints and the goals of a script that the judge lets pass.
-use Rattle.std.specs.Prelude.{◌≤◌, List, length, None}
+use Rattle.std.specs.Prelude.{◌≤◌, List, length, Option, None}
 use Rattle.script_shape.specs.Tree.{Script, formula, define}
 use Rattle.script_shape.specs.Roles.{script_leaves}
+use Rattle.script_judge.specs.Said.{Said}
 use Rattle.script_judge.specs.Judge.{Judged, nothing_seen}
 use Rattle.script_nodes.specs.Known.{Known}
 use Rattle.script_nodes.specs.Definitions.{definition_value}
@@ -27,8 +28,8 @@ pub record HasFewHints (l : HintList) : Type 0 where
 
 -- A script whose words the judge lets pass has few hints, whatever is known before it.
 abbrev pub HintsAreFew : Type 0
-HintsAreFew = (tree : Script) (k : Known) → Judged 0 nothing_seen (script_leaves tree) None
-    → HasFewHints (hints_behind tree k)
+HintsAreFew = (tree : Script) (k : Known) (said : Option Said)
+    → Judged 0 (nothing_seen said) (script_leaves tree) None → HasFewHints (hints_behind tree k)
 
 -- what the formula of a script claims as goals, behind what is known
 abbrev pub goals_behind : Script → Known → List Claim
@@ -38,6 +39,5 @@ goals_behind (define x rest) k = goals_behind rest (definition_value x k)
 -- A script whose words the judge lets pass has no more goals than propositions, which are 128 at
 -- most, whatever is known before it.
 abbrev pub GoalsAreFew : Type 0
-GoalsAreFew =
-    (tree : Script) (k : Known) → Judged 0 nothing_seen (script_leaves tree) None
-    → length (goals_behind tree k) ≤ 128
+GoalsAreFew = (tree : Script) (k : Known) (said : Option Said)
+    → Judged 0 (nothing_seen said) (script_leaves tree) None → length (goals_behind tree k) ≤ 128

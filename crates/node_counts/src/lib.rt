@@ -1,14 +1,13 @@
 //! Whole scripts have few nodes, hints and goals: what the judge lets pass has room in the list.
 #![tactic(auto)]
 
-ghost use Rattle.node_counts.specs.Counted.{NodesAreCounted};
+ghost use Rattle.node_counts.specs.Counted.{NodesAreCounted, CasesAreCounted};
 ghost use Rattle.node_counts.specs.Few.{HintsAreFew, GoalsAreFew};
 ghost use Rattle.node_counts.specs.Ranges.{SplitsHaveRanges};
 
-use script_bounds::outward_is_least;
 use script_claims::formulas_are_read;
 use script_hints::laws::reads_hints;
-use script_nodes::laws::{literals_are_told, reads_trees};
+use script_nodes::laws::reads_trees;
 use script_shape::shape::{leaves_are_of_trees, roles_are_unique};
 
 /// Nothing is done. The clause tells a caller that a script of a text whose words pass the judge
@@ -22,6 +21,12 @@ pub fn nodes_are_counted()
     leaves_are_of_trees();
     roles_are_unique();
 }
+
+/// Nothing is done. The clause tells a caller that the hypotheses of a formula whose words pass the
+/// judge have 64 cases at most.
+pub fn cases_are_counted()
+    ensures { CasesAreCounted }
+{}
 
 /// Nothing is done. The clause tells a caller that a script whose words pass the judge has no more
 /// than 64 rewritings, 64 likes, 4 cuts, each into 64 pieces at most, 4 variables that are halved,
@@ -41,7 +46,4 @@ pub fn goals_are_counted()
 /// hypothesis on its node, with two bounds that are finite when they are rounded outward.
 pub fn splits_have_ranges()
     ensures { SplitsHaveRanges }
-{
-    literals_are_told();
-    outward_is_least();
-}
+{}

@@ -2,5 +2,4 @@ use Rattle.node_counts.proofs.HintRanges.{splits_have_ranges}
 use Rattle.node_counts.proofs.splits_have_ranges.Goals as goal
 
 pub returns : goal.returns
-returns c = splits_have_ranges c.literals_are_told.ensures.told c.literals_are_told.ensures.once
-    c.outward_is_least.ensures
+returns c = splits_have_ranges
