@@ -1,31 +1,32 @@
 -- What is read of a text that isn't refused is the script that it spells.
-use Rattle.std.specs.Prelude.{◌≡◌, ℕ, List, length, take, None, Result, Ok, Err, IfOk, IfErr, Bool}
-use Rattle.std.specs.Prelude.{true, false, refl}
+use Rattle.std.specs.Prelude.{◌≡◌, ℕ, ◌≤◌, List, length, take, drop, None, Result, Ok, Err, IfOk}
+use Rattle.std.specs.Prelude.{IfErr, Bool, true, false, refl}
 use Rattle.std.proofs.Common.{sym, ap, ◌∙◌, subst}
 use Rattle.std.proofs.Math.Seq.{take-length}
 use Rattle.script_words.specs.Lex.{Lexes, LexesOnce}
 use Rattle.script_words.specs.Words.{Word}
 use Rattle.script_words.specs.Named.{words_of}
 use Rattle.script_shape.specs.Tree.{Script, script_words, IsScript}
-use Rattle.script_shape.specs.Roles.{script_leaves, HasRoles, LeavesAreOfTrees}
+use Rattle.script_shape.specs.declared.due.Due.{Due}
+use Rattle.script_shape.specs.Roles.{Leaf, script_leaves, HasRoles, leaves_of, LeavesAreOfTrees}
 use Rattle.script_shape.specs.ShapeLaw.{IsShapeOf}
 use Rattle.goal_spans.specs.declared.span.Span.{Span}
 use Rattle.goal_spans.specs.Reading.{spans_read, ReadsSpans}
 use Rattle.script_judge.specs.declared.refusal.Refusal.{Refusal}
 use Rattle.script_judge.specs.Reading.{Reading, IsReadingOf}
 use Rattle.script_judge.specs.First.{IsFirstRefusal}
+use Rattle.script_judge.specs.declared.formula.Formula.{Formula}
+use Rattle.script_judge.specs.Front.{no_front, read_front}
 use Rattle.script_claims.specs.Claims.{Sides}
-use Rattle.script_hints.specs.Reading.{HintReading}
-use Rattle.script_grammar.specs.declared.stage.Stage.{Stage}
-use Rattle.script_grammar.specs.declared.stage.Stage.TheVariants as stage
+use Rattle.script_hints.specs.Reading.{HintReading, read_hints}
 use Rattle.script_grammar.specs.declared.reading.ParseStop.{ParseStop}
 use Rattle.script_grammar.specs.declared.reading.ParseStop.TheVariants as stop
 use Rattle.script_grammar.specs.Meaning.{Meaning, meaning_of}
-use Rattle.script_grammar.specs.Steps as steps
-use Rattle.script_grammar.specs.Steps.{hinting, read_leaves, all_read, ReadsScripts}
+use Rattle.script_grammar.specs.Steps.{hints_begun, said_behind, read_behind, read_leaves}
+use Rattle.script_grammar.specs.Steps.{ReadsScripts}
 use Rattle.script_grammar.specs.Spells.{View, view_of, Spells, IsSpelled, SpellsOnce, SpellsAll}
-use Rattle.script_grammar.specs.Views.{step_of}
-use Rattle.script_grammar.proofs.Once.{meaning_at}
+use Rattle.script_grammar.specs.Judgement.{formula_end, IsFormulaOf}
+use Rattle.script_grammar.proofs.JudgedText.{roles_kept}
 
 -- words that are a script are taken whole
 all_taken : (ws : List Word) (n : ℕ) (b : Bool) → IsShapeOf ws n b → IsScript ws → n ≡ length ws
@@ -41,19 +42,9 @@ reading_leaves are r text tree h e =
     let roles : HasRoles r.words r.leaves = subst (λ ws. HasRoles ws r.leaves) w h.roles in
     are tree r.words r.leaves e roles
 
--- what was read behind the formula
-abbrev pub behind : Sides → HintReading → Meaning
-behind sides h = record {
-  known = h.reading.known;
-  hypotheses = sides.hypotheses;
-  goals = sides.goals;
-  parts = sides.parts;
-  hints = h.draft.list;
-}
-
 pub record IsAccepted (text : List ℕ) (r : Reading) (m : Meaning) : Type 0 where
   pub spells : Spells text (view_of text r.tokens m (spans_read r.leaves))
-  pub read : read_leaves r.leaves steps.start ≡ all_read m
+  pub read : read_leaves r.leaves ≡ m
 
 pub accepted_reading : LexesOnce → LeavesAreOfTrees → ReadsScripts → ReadsSpans
     → SpellsAll → (text : List ℕ) (r : Reading) → IsFirstRefusal text None → IsReadingOf text r
@@ -76,25 +67,34 @@ accepted_reading lexes are reads spans all text r a h =
           says =
               ap (view_of text r.tokens (meaning_of p.tree)) (ap spans_read leaves ∙ spans p.tree);
         };
-        read = ap (λ ls. read_leaves ls steps.start) leaves ∙ reads p.tree;
+        read = ap read_leaves leaves ∙ reads p.tree;
       },
     )
 
 -- the reading ends behind the formula, with the script's parts
 pub spelled_behind : (text : List ℕ) (r : Reading) (m : Meaning) (sides : Sides) (h : HintReading)
-    → IsAccepted text r m → hinting sides h ≡ read_leaves r.leaves steps.start
+    → IsAccepted text r m → said_behind sides h ≡ read_leaves r.leaves
     → (spans : List Span) → spans ≡ spans_read r.leaves
     → IsSpelled text r.tokens h.reading.known sides spans h.draft.list
 spelled_behind text r m sides h a e spans f =
-    let q : behind sides h ≡ m = ap meaning_at (e ∙ a.read) in
-    subst (λ ss. Spells text (view_of text r.tokens (behind sides h) ss)) (sym f)
-    (subst (λ n. Spells text (view_of text r.tokens n (spans_read r.leaves))) (sym q) a.spells)
+    subst (λ ss. Spells text (view_of text r.tokens (said_behind sides h) ss)) (sym f)
+    (subst (λ n. Spells text (view_of text r.tokens n (spans_read r.leaves)))
+    (sym (e ∙ a.read)) a.spells)
 
-pub ends_in_hints : (st : Stage) (m : Meaning) → step_of st ≡ all_read m
-    → ((x : Sides) (y : HintReading) → st ≡ stage.Hints x y → ⊥) → ⊥
-ends_in_hints (stage.Definitions p) m e n = cc e
-ends_in_hints (stage.Formula st) m e n = cc e
-ends_in_hints (stage.Hints x y) m e n = n x y refl
+-- the hints, behind a formula that says this
+pub hints_at : (rs : List Due) (ws : List Word) → length rs ≤ length ws → (f : Formula)
+    → IsFormulaOf (leaves_of rs ws) (formula_end rs) f
+    → (end : ℕ) → end ≡ formula_end rs
+    → (later : List Leaf) → later ≡ drop end (leaves_of rs ws)
+    → said_behind f.sides (read_hints later (hints_begun f.nodes))
+    ≡ read_leaves (leaves_of rs ws)
+hints_at rs ws h f front end e later p =
+    let leaves = leaves_of rs ws in
+    ap (λ ls. said_behind f.sides (read_hints ls (hints_begun f.nodes)))
+    (p ∙ ap (λ n. drop n leaves) e)
+    ∙ ap (λ g. read_behind g (drop (formula_end rs) leaves)) (sym front)
+    ∙ ap (λ n. read_behind (read_front (take n leaves) no_front) (drop n leaves))
+    (ap formula_end (sym (roles_kept rs ws h)))
 
 -- what is spelled is answered
 pub only_spelled : SpellsOnce → (text : List ℕ) (o : Result View ParseStop)

@@ -26,12 +26,13 @@ use Rattle.script_judge.specs.declared.fault.Fault.{Fault}
 use Rattle.script_judge.specs.Reading.{Reading, IsReadingOf, not_text, too_long}
 use Rattle.script_judge.specs.First.{unread, read}
 use Rattle.script_judge.specs.Bounds.{IsWordNumber, IsMagnitude, IsBoundText, IsBoundOf}
+use Rattle.script_judge.specs.Front.{said_in, ReadsFronts}
 use Rattle.script_judge.specs.Numbers.{Notes, IsPastWord, IsPast, is_number, Tells}
-use Rattle.script_judge.specs.Sides.{has_arrow}
 use Rattle.script_judge.specs.Judge.{Seen, nothing_seen, seen_after, refusal_at, Judged}
 use Rattle.script_judge.specs.Judge.{none_refused, refused, passed}
 use Rattle.script_nodes.specs.Literals.{literal_of, LiteralsAreTold, SpelledOnce}
 use Rattle.script_grammar.specs.Spells.{FirstsExist}
+use Rattle.script_grammar.proofs.FrontLeaves.{leaves_say}
 
 -- ---- bytes are text, or stop being it somewhere
 
@@ -174,8 +175,8 @@ module _ (told : LiteralsAreTold) (once : SpelledOnce) where
   notes r w behind =
       let p = past (is_number r) w in
       let n = bound r w behind in (
-        record { past = p.0; number = n.0; arrow_behind = has_arrow behind },
-        record { past = p.1; number = n.1; arrow = refl },
+        record { past = p.0; number = n.0 },
+        record { past = p.1; number = n.1 },
       )
 
   -- ---- the first refused word
@@ -214,14 +215,16 @@ reading_of lexes shapes text =
 
 -- ---- the first refusal
 
-pub firsts_exist : LexesAll → ShapesExist → LiteralsAreTold → SpelledOnce → FirstsExist
-firsts_exist lexes shapes told once text = ⊎_elim
+pub firsts_exist : LexesAll → ShapesExist → LiteralsAreTold → SpelledOnce → ReadsFronts
+    → FirstsExist
+firsts_exist lexes shapes told once fronts text = ⊎_elim
     (λ (long : 2 ^ 20 < length text). (Some _, unread (too_long long)))
     (λ (short : length text ≤ 2 ^ 20). ⊎_elim
     (λ (u : IsUtf8 text).
     let r = reading_of lexes shapes text in
-    let j = judged told once 0 nothing_seen r.0.leaves in
-    (_, read {found = j.0} (short, u) r.1 j.1))
+    let j = judged told once 0 (nothing_seen (said_in r.0.leaves)) r.0.leaves in
+    let says = leaves_say fronts r.0.leaves r.1.roles in
+    (_, read {said = said_in r.0.leaves} {found = j.0} (short, u) r.1 says j.1))
     (λ n. (Some _, unread (not_text short n.1)))
     (text_or_not text))
     (cases_lt (2 ^ 20) (length text))

@@ -1,8 +1,11 @@
-mod WordsRead
 mod Once
+mod FrontLeaves
+mod WordsRead
+mod JudgedText
 mod Accepted
+mod Firsts
 mod GoalSpans
-mod StepsGrow
+mod HintsGrow
 mod Short
 mod Constraints
 mod FirstsExist

@@ -6,7 +6,6 @@ use Rattle.script_words.specs.Lex.{LexesOnce}
 use Rattle.script_words.specs.Named.{words_of}
 use Rattle.script_shape.specs.Tree.{Script, script_words}
 use Rattle.script_shape.specs.Roles.{script_leaves, HasRoles, LeavesAreOfTrees}
-use Rattle.script_cases.specs.Parts.{nothing}
 use Rattle.goal_spans.specs.Spans.{goal_spans}
 use Rattle.goal_spans.specs.Reading.{spans_read, ReadsSpans}
 use Rattle.script_judge.specs.declared.refusal.Refusal.{Refusal}
@@ -14,34 +13,9 @@ use Rattle.script_judge.specs.Reading as reading
 use Rattle.script_judge.specs.Reading.{IsFaultOf, IsScriptText, fault}
 use Rattle.script_judge.specs.First.{IsFirstRefusal, unread, read, first_of, refusal_of}
 use Rattle.script_judge.specs.First.{FirstsAreUnique}
-use Rattle.script_grammar.specs.Meaning.{Meaning, meaning_of}
-use Rattle.script_grammar.specs.Steps as steps
-use Rattle.script_grammar.specs.Steps.{Step, defining, claiming, hinting, read_leaves, ReadsScripts}
+use Rattle.script_grammar.specs.Meaning.{meaning_of}
+use Rattle.script_grammar.specs.Steps.{read_leaves, ReadsScripts}
 use Rattle.script_grammar.specs.Spells.{view_of, SpellsOnce, NeverBoth, SpellsAll}
-
--- what was read, behind all words
-abbrev pub meaning_at : Step → Meaning
-meaning_at (defining p) = record {
-  known = p.reading.known;
-  hypotheses = [];
-  goals = [];
-  parts = nothing;
-  hints = record { rewrites = []; likes = []; cuts = []; halves = []; order = [] };
-}
-meaning_at (claiming st) = record {
-  known = st.reading.known;
-  hypotheses = st.sides.hypotheses;
-  goals = st.sides.goals;
-  parts = st.sides.parts;
-  hints = record { rewrites = []; likes = []; cuts = []; halves = []; order = [] };
-}
-meaning_at (hinting sides h) = record {
-  known = h.reading.known;
-  hypotheses = sides.hypotheses;
-  goals = sides.goals;
-  parts = sides.parts;
-  hints = h.draft.list;
-}
 
 -- trees of the same words have the same leaves
 same_leaves : LeavesAreOfTrees → (a b : Script) → script_words a ≡ script_words b
@@ -55,8 +29,7 @@ same_leaves are a b e =
 
 same_meaning : LeavesAreOfTrees → ReadsScripts → (a b : Script) → script_words a ≡ script_words b
     → meaning_of a ≡ meaning_of b
-same_meaning are reads a b e = ap meaning_at (sym (reads a)
-    ∙ ap (λ ls. read_leaves ls steps.start) (same_leaves are a b e) ∙ reads b)
+same_meaning are reads a b e = sym (reads a) ∙ ap read_leaves (same_leaves are a b e) ∙ reads b
 
 same_spans : LeavesAreOfTrees → ReadsSpans → (a b : Script) → script_words a ≡ script_words b
     → goal_spans a ≡ goal_spans b
@@ -77,7 +50,7 @@ pub never_both : FirstsAreUnique → NeverBoth
 never_both firsts text s r p q = absurd (cc (firsts text None (Some r) p.accepted q))
 
 -- ---- a text that isn't refused
-first_none : (a b : Option Refusal) → first_of a b ≡ None → a ≡ None
+pub first_none : (a b : Option Refusal) → first_of a b ≡ None → a ≡ None
 first_none None b e = refl
 first_none (Some x) None e = absurd (cc e)
 first_none (Some x) (Some y) e = absurd (by_test _ e)
@@ -89,7 +62,7 @@ first_none (Some x) (Some y) e = absurd (by_test _ e)
 reads_to_end : (text : List ℕ) (o : Option Refusal) → IsFirstRefusal text o
     → o ≡ None → IsFaultOf text None
 reads_to_end text o (unread h) e = absurd (cc e)
-reads_to_end text o (read {r = r} {found = found} k h j) e = subst (IsFaultOf text)
+reads_to_end text o (read {r = r} {found = found} k h q j) e = subst (IsFaultOf text)
     (first_none (fault (length text) r) (refusal_of r found) e) (reading.read k h)
 
 pub spells_all : reading.ReadsScripts → SpellsAll

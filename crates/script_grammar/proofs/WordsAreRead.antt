@@ -15,7 +15,6 @@ use Rattle.script_words.specs.Named.{nothing, words_of}
 use Rattle.script_shape.specs.declared.due.Due.{Due}
 use Rattle.script_shape.specs.declared.due.Due.TheVariants as d
 use Rattle.script_shape.specs.Roles.{Leaf, script_leaves, LeavesAreOfTrees, LeavesSpell}
-use Rattle.script_cases.specs.Parts.{begun_cases}
 use Rattle.script_judge.specs.declared.refusal.RefusalKind.{RefusalKind}
 use Rattle.script_judge.specs.declared.fault.Fault.{Fault}
 use Rattle.script_judge.specs.Names.{is_used, defines, is_some_among, split_name}
@@ -23,7 +22,7 @@ use Rattle.script_judge.specs.Bounds.{is_bad_bound}
 use Rattle.script_judge.specs.Splits.{is_rangeless, is_bad_point}
 use Rattle.script_judge.specs.Numbers.{Notes, Tells, has_no_pieces, is_past_lsb, is_past_pieces}
 use Rattle.script_judge.specs.declared.counts.Counts.{Counts}
-use Rattle.script_judge.specs.Judge.{Seen, is_on_wrong_side, is_past_cases, or_else, form_kind}
+use Rattle.script_judge.specs.Judge.{Seen, is_on_wrong_side, or_else, form_kind}
 use Rattle.script_judge.specs.Judge.{form_refusal, limit_kind, limit_refusal, seen_after}
 use Rattle.script_judge.specs.Judge.{refusal_at, Judged, refused, passed}
 use Rattle.script_judge.specs.Sides.{has_arrow}
@@ -73,9 +72,9 @@ form_past side used bad rangeless defined none point past e =
     let f = none_is (defined || none || point) _ _ d.more in
     let g = none_is past _ _ f.more in g.first
 
-limit_past : (opened halved : ℕ) (c : Counts) (lsb pieces cases : Bool)
-    → limit_kind opened halved c lsb pieces cases ≡ None → (lsb ≡ false) × (pieces ≡ false)
-limit_past opened halved c lsb pieces cases e =
+limit_past : (opened halved : ℕ) (c : Counts) (lsb pieces : Bool)
+    → limit_kind opened halved c lsb pieces ≡ None → (lsb ≡ false) × (pieces ≡ false)
+limit_past opened halved c lsb pieces e =
     let nesting = none_is (nat_lt 64 opened) _ _ e in
     let definitions = none_is (nat_lt 256 c.definitions) _ _ nesting.more in
     let propositions = none_is (nat_lt 128 c.propositions) _ _ definitions.more in
@@ -95,12 +94,11 @@ is_passed v seen r w behind e =
     let limit = second_none (form_refusal v seen r w (has_arrow behind) behind)
     (limit_refusal after r w) e in
     let digits = limit_past (length after.opened)
-    (length after.names.halved) after.counts (is_past_lsb r w) (is_past_pieces r w)
-    (is_past_cases r w (begun_cases after.splits.ranges)) limit in
+    (length after.names.halved) after.counts (is_past_lsb r w) (is_past_pieces r w) limit in
     let defined = is_some_among seen.names.defined (split_name r w) in
     let past = form_past (is_on_wrong_side r w (has_arrow behind) behind)
     (is_used seen.names (defines r w) behind) (is_bad_bound seen.bounds v.number)
-    (is_rangeless seen.splits.ranges defined (split_name r w)) defined (has_no_pieces r w)
+    (is_rangeless seen.said defined (split_name r w)) defined (has_no_pieces r w)
     (is_bad_point seen.splits (nat_lt 0 seen.counts.pieces) v.number) v.past form in
     record { past = past; lsb = digits.0; pieces = digits.1 }
 
@@ -159,5 +157,5 @@ module _ (told : LiteralsAreTold) where
       let words : AllByRecursion IsSpelled (words_of text s.tokens) =
       words_spelled text nothing [] refl p.lexed in
       let leaves = script_leaves p.tree in
-      words_read leaves (spelled_judged lexes are text s p) refl
+      words_read leaves (spelled_judged lexes are text s p).judged refl
       (all_mapped leaves (subst (AllByRecursion IsSpelled) (sym (spell p.tree ∙ p.words)) words))

@@ -1,236 +1,34 @@
 -- The words of a script are read as its tree.
-use Rattle.std.specs.Prelude.{◌≡◌, List, [], ◌∷◌, ◌++◌, false, refl}
-use Rattle.std.proofs.Common.{ap, sym, ◌∙◌, append-nil}
-use Rattle.script_words.specs.declared.class.Symbol.TheVariants as s
-use Rattle.script_words.specs.declared.class.Spelled.TheVariants as spelled
-use Rattle.script_words.specs.Words.{Word, sign}
-use Rattle.script_shape.specs.declared.due.Due.{Due}
-use Rattle.script_shape.specs.declared.due.Due.TheVariants as d
-use Rattle.script_shape.specs.Expressions.{AnyName, plain, operator, Whole, Bound, Operator, Expr}
-use Rattle.script_shape.specs.Propositions.{Range, asked, between as range_between, Prop, lies_in}
-use Rattle.script_shape.specs.Propositions.{relative_in, at_most, at_least, multiple, Stated}
-use Rattle.script_shape.specs.Propositions.{affirmed, denied, Formula, single, and, or, implies}
-use Rattle.script_shape.specs.Tree.{How, exactly, rounded_by, rounded_apart, rounded_joined}
-use Rattle.script_shape.specs.Tree.{Definition, names_operator, names_value, Script, formula}
-use Rattle.script_shape.specs.Tree.{define}
-use Rattle.script_shape.specs.Hints.{Hints}
-use Rattle.script_shape.specs.Roles.{Leaf, at, name_leaves, special_leaves, whole_leaves}
-use Rattle.script_shape.specs.Roles.{bound_leaves, operator_leaves, expr_leaves, range_leaves}
-use Rattle.script_shape.specs.Roles.{prop_leaves, stated_leaves, formula_leaves, hints_leaves}
-use Rattle.script_shape.specs.Roles.{how_leaves, definition_leaves, script_leaves}
-use Rattle.script_shape.proofs.Inner.{EachRole, each_of_both, each_as, IsInner, name_roles}
-use Rattle.script_shape.proofs.Inner.{special_roles, bound_roles, whole_inner, operator_roles}
-use Rattle.script_shape.proofs.Inner.{expr_inner}
+use Rattle.std.proofs.Common.{◌≡◌, [], drop, take, refl, sym, ap, ◌∙◌, append-nil}
+use Rattle.script_shape.specs.Tree.{Script, formula, define}
+use Rattle.script_shape.specs.Roles.{script_leaves}
 use Rattle.script_nodes.specs.Known.{Known, nothing_known}
 use Rattle.script_nodes.specs.Definitions.{definition_value}
-use Rattle.script_nodes.specs.Defining.{Defining, between, define_word, define_all, opens_formula}
-use Rattle.script_nodes.specs.Defining.{ReadsDefinition}
-use Rattle.script_claims.specs.Claims.{Sides, no_claims, formula_claims}
-use Rattle.script_claims.specs.Reads.{State, from_claims, read_claim, read_claims, ReadsFormulas}
+use Rattle.script_claims.specs.Reads.{from_claims}
 use Rattle.script_hints.specs.Hints.{no_hints}
-use Rattle.script_hints.specs.Reading.{HintReading, hints_from, read_hint, read_hints}
 use Rattle.script_hints.specs.ReadingLaw.{ReadsHints}
+use Rattle.script_judge.specs.Said.{claims_behind}
+use Rattle.script_judge.specs.Front.{front_closed, read_front, no_front, front_leaves, ReadsFronts}
+use Rattle.node_counts.proofs.FewHints.{hints_of}
 use Rattle.script_grammar.specs.Meaning.{meaning_from, body_meaning}
-use Rattle.script_grammar.specs.Steps.{defining, claiming, hinting, hints_begun, read_word}
-use Rattle.script_grammar.specs.Steps.{read_leaves, all_read, ReadsScripts}
+use Rattle.script_grammar.specs.Steps.{said_behind, read_behind, ReadsScripts}
+use Rattle.script_grammar.specs.Judgement.{formula_end}
+use Rattle.script_grammar.proofs.FrontLeaves.{roles, front_taken, front_left}
 
--- ---- words that neither begin a definition or the formula, nor close it
+meaning_in : (tree : Script) (k : Known)
+    → body_meaning (claims_behind tree k) (hints_of tree) ≡ meaning_from tree k
+meaning_in (formula f h) k = refl
+meaning_in (define x rest) k = meaning_in rest (definition_value x k)
 
-abbrev StaysAt : Due → Type 0
-StaysAt d.Script = ⊥
-StaysAt d.CloseBrace = ⊥
-StaysAt r = Unit {0}
-
-abbrev AllStay : List Leaf → Type 0
-AllStay ls = EachRole StaysAt ls
-
-both : (a b : List Leaf) → AllStay a → AllStay b → AllStay (a ++ b)
-both a b p q = each_of_both StaysAt a b p q
-
-inner_stays : (r : Due) → IsInner r → StaysAt r
-inner_stays d.Script i = absurd i
-inner_stays d.CloseBrace i = absurd i
-inner_stays _ i = tt
-
-whole_stays : (w : Whole) → AllStay (whole_leaves w)
-whole_stays w = each_as IsInner StaysAt inner_stays (whole_leaves w) (whole_inner w)
-
-bound_stays : (b : Bound) → AllStay (bound_leaves b)
-bound_stays b = bound_roles StaysAt b tt tt
-
-operator_stays : (r : Due) (o : Operator) → StaysAt r → AllStay (operator_leaves r o)
-operator_stays r o h = operator_roles StaysAt r o h inner_stays
-
-expr_stays : (e : Expr) → AllStay (expr_leaves e)
-expr_stays e = each_as IsInner StaysAt inner_stays (expr_leaves e) (expr_inner e)
-
-range_stays : (r : Range) → AllStay (range_leaves r)
-range_stays asked = (tt, tt)
-range_stays (range_between a b) = (
-  tt,
-  both (bound_leaves a) _ (bound_stays a) (tt, both (bound_leaves b) _ (bound_stays b) (tt, tt)),
-)
-
-prop_stays : (p : Prop) → AllStay (prop_leaves p)
-prop_stays (lies_in e r) = both (expr_leaves e) _ (expr_stays e) (tt, range_stays r)
-prop_stays (relative_in a b r) = both (expr_leaves a) _ (expr_stays a)
-    (tt, both (expr_leaves b) _ (expr_stays b) (tt, range_stays r))
-prop_stays (at_most e b) = both (expr_leaves e) _ (expr_stays e) (tt, bound_stays b)
-prop_stays (at_least e b) = both (expr_leaves e) _ (expr_stays e) (tt, bound_stays b)
-prop_stays (multiple f e k) = (
-  tt,
-  both (special_leaves d.Fix spelled.Fix f) _ (special_roles StaysAt d.Fix spelled.Fix f tt) (
-    tt,
-    both (expr_leaves e) _ (expr_stays e) (tt, both (whole_leaves k) _ (whole_stays k) (tt, tt)),
-  ),
-)
-
-stated_stays : (p : Stated) → AllStay (stated_leaves p)
-stated_stays (affirmed p) = prop_stays p
-stated_stays (denied p) = (tt, prop_stays p)
-
-formula_stays : (f : Formula) → AllStay (formula_leaves f)
-formula_stays (single p) = stated_stays p
-formula_stays (and f p) = both (formula_leaves f) _ (formula_stays f) (tt, stated_stays p)
-formula_stays (or f p) = both (formula_leaves f) _ (formula_stays f) (tt, stated_stays p)
-formula_stays (implies f p) = both (formula_leaves f) _ (formula_stays f) (tt, stated_stays p)
-
-how_stays : (h : How) → AllStay (how_leaves h)
-how_stays exactly = (tt, tt)
-how_stays (rounded_by k t) = (tt, (tt, tt))
-how_stays (rounded_apart o) =
-    both (operator_leaves d.DefinedBy o) _ (operator_stays d.DefinedBy o tt) (tt, (tt, tt))
-how_stays (rounded_joined o) =
-    both (operator_leaves d.DefinedBy o) _ (operator_stays d.DefinedBy o tt) (tt, tt)
-
--- ---- definitions
-
--- no word of a definition opens the formula
-abbrev Shut : List Leaf → Type 0
-Shut [] = Unit {0}
-Shut (l ∷ ls) = (opens_formula l.role l.word ≡ false) × Shut ls
-
-stay_shut : (r : Due) (w : Word) → StaysAt r → opens_formula r w ≡ false
-stay_shut d.Script w h = absurd h
-stay_shut d.CloseBrace w h = absurd h
-stay_shut _ w h = refl
-
-all_shut : (ls : List Leaf) → AllStay ls → Shut ls
-all_shut [] h = tt
-all_shut (l ∷ ls) h = (stay_shut l.role l.word h.0, all_shut ls h.1)
-
-value_name_shut : (n : AnyName) (ls : List Leaf) → Shut ls → Shut (name_leaves d.Script n ++ ls)
-value_name_shut (plain k t) ls h = (refl, h)
-value_name_shut (operator k t) ls h = (refl, h)
-
-definition_shut : (x : Definition) → Shut (definition_leaves x)
-definition_shut (names_operator n o) = (
-  refl,
-  all_shut _ (both (name_leaves d.NewName n) _ (name_roles StaysAt d.NewName n tt)
-      (tt, both (operator_leaves d.Operator o) _ (operator_stays d.Operator o tt) (tt, (tt, tt)))),
-)
-definition_shut (names_value n h e) = value_name_shut n _ (all_shut _
-    (both (how_leaves h) _ (how_stays h) (both (expr_leaves e) _ (expr_stays e) (tt, tt))))
-
-defining_word : (r : Due) (w : Word) (p : Defining) → opens_formula r w ≡ false
-    → read_word r w (defining p) ≡ defining (define_word r w p)
-unfolding read_word
-defining_word r w p e = rw e refl
-
-define_first : (l : Leaf) (ls : List Leaf) (p : Defining) → opens_formula l.role l.word ≡ false
-    → define_all (l ∷ ls) p ≡ define_all ls (define_word l.role l.word p)
-unfolding define_all
-define_first l ls p e = rw e refl
-
-define_words : (ls rest : List Leaf) (p : Defining) → Shut ls
-    → read_leaves (ls ++ rest) (defining p) ≡ read_leaves rest (defining (define_all ls p))
-unfolding read_leaves define_all
-define_words [] rest p h = refl
-define_words (l ∷ ls) rest p h = ap (read_leaves (ls ++ rest)) (defining_word l.role l.word p h.0)
-    ∙ define_words ls rest (define_word l.role l.word p) h.1
-    ∙ ap (λ q. read_leaves rest (defining q)) (sym (define_first l ls p h.0))
-
--- ---- the formula
-
-claiming_word : (r : Due) (w : Word) (st : State) → StaysAt r
-    → read_word r w (claiming st) ≡ claiming (read_claim r w st)
-unfolding read_word
-claiming_word d.Script w st h = absurd h
-claiming_word d.CloseBrace w st h = absurd h
-claiming_word _ w st h = refl
-
-claim_words : (ls rest : List Leaf) (st : State) → AllStay ls
-    → read_leaves (ls ++ rest) (claiming st) ≡ read_leaves rest (claiming (read_claims ls st))
-unfolding read_leaves read_claims
-claim_words [] rest st h = refl
-claim_words (l ∷ ls) rest st h = ap (read_leaves (ls ++ rest)) (claiming_word l.role l.word st h.0)
-    ∙ claim_words ls rest (read_claim l.role l.word st) h.1
-
-claims_append : (a b : List Leaf) (st : State)
-    → read_claims (a ++ b) st ≡ read_claims b (read_claims a st)
-unfolding read_claims
-claims_append [] b st = refl
-claims_append (l ∷ a) b st = claims_append a b (read_claim l.role l.word st)
-
--- ---- the hints
-
-hint_words : (ls : List Leaf) (sides : Sides) (h : HintReading)
-    → read_leaves ls (hinting sides h) ≡ hinting sides (read_hints ls h)
-unfolding read_leaves read_word read_hints
-hint_words [] sides h = refl
-hint_words (l ∷ ls) sides h = hint_words ls sides (read_hint l.role l.word h)
-
--- ---- scripts
-
-module _ (one : ReadsDefinition) (formulas : ReadsFormulas) (hints : ReadsHints) where
-  definition_ends : (x : Definition) (k : Known)
-      → define_all (definition_leaves x) (between k) ≡ between (definition_value x k)
-  unfolding define_all
-  definition_ends x k =
-      ap (λ ls. define_all ls (between k)) (sym (append-nil (definition_leaves x))) ∙ one x [] k
-
-  brace : Leaf
-  brace = at d.CloseBrace (sign s.CloseBrace)
-
-  claims_end : (f : Formula) (k : Known) → read_claim d.CloseBrace (sign s.CloseBrace) (read_claims
-      (formula_leaves f) (from_claims (no_claims k))) ≡ from_claims (formula_claims f k)
-  unfolding read_claims
-  claims_end f k = sym (claims_append (formula_leaves f) (at d.CloseBrace (sign s.CloseBrace) ∷ [])
-      (from_claims (no_claims k))) ∙ formulas f [] k
-
-  closing_word : (st : State) → read_word d.CloseBrace (sign s.CloseBrace) (claiming st)
-      ≡ hints_begun (read_claim d.CloseBrace (sign s.CloseBrace) st)
-  unfolding read_word
-  closing_word st = refl
-
-  body_read : (f : Formula) (h : Hints) (k : Known)
-      → read_leaves (formula_leaves f ++ (at d.CloseBrace (sign s.CloseBrace) ∷ hints_leaves h))
-      (claiming (from_claims (no_claims k))) ≡ all_read (body_meaning (formula_claims f k) h)
-  unfolding read_leaves
-  body_read f h k =
-      let cs = formula_claims f k in
-      claim_words (formula_leaves f) (at d.CloseBrace (sign s.CloseBrace) ∷ hints_leaves h)
-      (from_claims (no_claims k)) (formula_stays f)
-      ∙ ap (read_leaves (hints_leaves h)) (closing_word (read_claims (formula_leaves f)
-      (from_claims (no_claims k))) ∙ ap hints_begun (claims_end f k))
-      ∙ hint_words (hints_leaves h) cs.sides (hints_from cs.known no_hints)
-      ∙ ap (hinting cs.sides) (hints h cs.known no_hints)
-
-  opening : (w : Word) (k : Known) → read_word d.Script (sign s.OpenBrace) (defining (between k))
-      ≡ claiming (from_claims (no_claims k))
-  unfolding read_word
-  opening w k = refl
-
-  script_read : (tree : Script) (k : Known)
-      → read_leaves (script_leaves tree) (defining (between k)) ≡ all_read (meaning_from tree k)
-  unfolding read_leaves
-  script_read (formula f h) k =
-      ap (read_leaves (formula_leaves f ++ (at d.CloseBrace (sign s.CloseBrace) ∷ hints_leaves h)))
-      (opening (sign s.OpenBrace) k) ∙ body_read f h k
-  script_read (define x rest) k =
-      define_words (definition_leaves x) (script_leaves rest) (between k) (definition_shut x)
-      ∙ ap (λ p. read_leaves (script_leaves rest) (defining p)) (definition_ends x k)
-      ∙ script_read rest (definition_value x k)
-
-  pub scripts_are_read : ReadsScripts
-  scripts_are_read tree = script_read tree nothing_known
+pub scripts_are_read : ReadsFronts → ReadsHints → ReadsScripts
+scripts_are_read fronts hints tree =
+    let all = script_leaves tree in
+    let end = formula_end (roles all) in
+    let cs = claims_behind tree nothing_known in
+    let front : read_front (take end all) no_front ≡ front_closed (from_claims cs) =
+    ap (λ l. read_front l no_front) (front_taken tree ∙ sym (append-nil (front_leaves tree)))
+    ∙ fronts tree [] in
+    ap (λ f. read_behind f (drop end all)) front
+    ∙ ap (read_behind (front_closed (from_claims cs))) (front_left tree)
+    ∙ ap (said_behind cs.sides) (hints (hints_of tree) cs.known no_hints)
+    ∙ meaning_in tree nothing_known

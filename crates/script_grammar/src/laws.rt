@@ -10,10 +10,10 @@ ghost use Rattle.script_grammar.specs.Read.{SpelledAreRead};
 
 use goal_spans::spans_are_read;
 use node_counts::{goals_are_counted, hints_are_counted, nodes_are_counted, splits_have_ranges};
-use script_claims::{formulas_are_read, parts_have_hypotheses};
+use script_claims::parts_have_hypotheses;
 use script_hints::laws::reads_hints;
-use script_judge::{firsts_are_unique, reads_scripts};
-use script_nodes::laws::{literals_are_told, reads_definitions};
+use script_judge::{firsts_are_unique, fronts_are_read, reads_scripts};
+use script_nodes::laws::literals_are_told;
 use script_shape::shape::{leaves_are_of_trees, shapes_exist};
 use script_words::lex::{lexed_all, lexed_once, tokens_are_few};
 
@@ -22,8 +22,7 @@ use script_words::lex::{lexed_all, lexed_once, tokens_are_few};
 pub fn scripts_are_read()
     ensures { ReadsScripts }
 {
-    reads_definitions();
-    formulas_are_read();
+    fronts_are_read();
     reads_hints();
 }
 
@@ -43,6 +42,7 @@ pub fn script_or_refusal()
     shapes_exist();
     literals_are_told();
     leaves_are_of_trees();
+    fronts_are_read();
     firsts_are_unique();
     reads_scripts();
 }
@@ -53,6 +53,7 @@ pub fn spelled_are_short()
     ensures { SpelledAreShort }
 {
     nodes_are_counted();
+    fronts_are_read();
     lexed_once();
     leaves_are_of_trees();
 }
@@ -109,6 +110,7 @@ pub fn spelled_have_ranges()
     ensures { SpelledHaveRanges }
 {
     splits_have_ranges();
+    fronts_are_read();
     lexed_once();
     leaves_are_of_trees();
 }
@@ -120,6 +122,7 @@ pub fn spelled_have_few_cases()
 {
     parts_have_hypotheses();
     splits_have_ranges();
+    fronts_are_read();
     lexed_once();
     leaves_are_of_trees();
 }

@@ -4,11 +4,13 @@
 // What callers name of the crates below.
 pub use script_judge::{LimitKind, Refusal, RefusalKind};
 
+mod hints;
+mod judgement;
 mod laws;
 mod reading;
 mod script;
-mod stage;
 
+pub use judgement::first_refusal;
 pub use laws::{
     script_or_refusal, scripts_are_read, spelled_are_read, spelled_are_short,
     spelled_have_few_cases, spelled_have_few_constraints, spelled_have_few_goals,

@@ -3,7 +3,8 @@
 ghost use Rattle.std.specs.Prelude.{◌<◌};
 
 use crate::equals::equal;
-use script_judge::{LimitKind, Refusal, RefusalKind, first_refusal};
+use script_grammar::first_refusal;
+use script_judge::{LimitKind, Refusal, RefusalKind};
 use std::alloc::{AllocError, Global};
 use std::process::Abort;
 use std::test::Fail;

@@ -18,4 +18,4 @@ returns-clause-spans c = goals_have_spans
 
 pub returns-clause-answered : goal.returns-clause-answered
 returns-clause-answered c = firsts_exist c.lexed_all.ensures c.shapes_exist.ensures
-    c.literals_are_told.ensures.told c.literals_are_told.ensures.once
+    c.literals_are_told.ensures.told c.literals_are_told.ensures.once c.fronts_are_read.ensures

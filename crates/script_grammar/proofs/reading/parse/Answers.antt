@@ -1,5 +1,5 @@
 use Rattle.std.proofs.Common.{subst}
-use Rattle.script_judge.specs.Judgement.{IsJudgement}
+use Rattle.script_grammar.specs.Judgement.{IsJudgement}
 use Rattle.script_grammar.proofs.Accepted.{only_spelled}
 use Rattle.script_grammar.proofs.reading.parse.Goals as goal
 
