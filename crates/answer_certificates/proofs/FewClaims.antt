@@ -1,6 +1,6 @@
 -- A script has few claims: the judge counts them.
-use Rattle.std.specs.Prelude.{◌≡◌, ℕ, ◌+◌, ◌≤◌, List, [], ◌∷◌, ◌++◌, length, None, true, refl}
-use Rattle.std.proofs.Common.{sym, subst, arith, length-append}
+use Rattle.std.specs.Prelude.{◌≡◌, ℕ, ◌+◌, ◌≤◌, List, [], ◌∷◌, ◌++◌, length, Option, None, true}
+use Rattle.std.proofs.Common.{refl, sym, subst, arith, length-append}
 use Rattle.script_words.specs.declared.class.Symbol.TheVariants as s
 use Rattle.script_words.specs.Words.{Word, sign}
 use Rattle.script_shape.specs.declared.due.Due.{Due}
@@ -12,6 +12,7 @@ use Rattle.script_shape.specs.Roles.{definition_leaves, script_leaves}
 use Rattle.script_judge.specs.declared.counts.ScriptPart.{ScriptPart}
 use Rattle.script_judge.specs.declared.counts.ScriptPart.TheVariants as place
 use Rattle.script_judge.specs.Counts.{one_if, is_first, begins_proposition, place_after}
+use Rattle.script_judge.specs.Said.{Said}
 use Rattle.script_judge.specs.Judge.{Seen, seen_after, Judged, nothing_seen}
 use Rattle.script_nodes.specs.Known.{Known}
 use Rattle.script_nodes.specs.Definitions.{definition_value}
@@ -111,10 +112,11 @@ script_counted (define x rest) k = omega (
 )
 
 -- A script whose words pass the judge has few hypotheses and goals.
-pub claims_few : (tree : Script) (k : Known) → Judged 0 nothing_seen (script_leaves tree) None
+pub claims_few : (tree : Script) (k : Known) (said : Option Said)
+    → Judged 0 (nothing_seen said) (script_leaves tree) None
     → length (meaning_from tree k).hypotheses + length (meaning_from tree k).goals ≤ 130
-claims_few tree k j = omega (
+claims_few tree k said j = omega (
   arith,
   script_counted tree k,
-  connectives_counted (script_leaves tree) 0 nothing_seen j (omega arith),
+  connectives_counted (script_leaves tree) 0 (nothing_seen said) j (omega arith),
 )

@@ -10,15 +10,15 @@ use Rattle.script_words.specs.Named.{words_of}
 use Rattle.script_shape.specs.Tree.{script_words, IsScript}
 use Rattle.script_shape.specs.Roles.{Leaf, script_leaves, HasRoles, LeavesAreOfTrees}
 use Rattle.script_shape.specs.ShapeLaw.{IsShapeOf}
-use Rattle.script_cases.specs.Parts.{begun_cases}
 use Rattle.script_judge.specs.declared.refusal.Refusal.{Refusal}
 use Rattle.script_judge.specs.declared.counts.Counts.{Counts}
 use Rattle.script_judge.specs.declared.fault.Fault.{Fault}
 use Rattle.script_judge.specs.Names.{is_some_among, is_used, defines, split_name}
 use Rattle.script_judge.specs.Bounds.{is_bad_bound}
+use Rattle.script_judge.specs.Said.{Said}
 use Rattle.script_judge.specs.Splits.{is_rangeless, is_bad_point}
 use Rattle.script_judge.specs.Numbers.{Notes, has_no_pieces, is_past_lsb, is_past_pieces}
-use Rattle.script_judge.specs.Judge.{Seen, seen_after, is_on_wrong_side, is_past_cases, form_kind}
+use Rattle.script_judge.specs.Judge.{Seen, seen_after, is_on_wrong_side, form_kind}
 use Rattle.script_judge.specs.Judge.{form_refusal, limit_kind, limit_refusal, refusal_at, Judged}
 use Rattle.script_judge.specs.Judge.{refused, passed, nothing_seen}
 use Rattle.script_judge.proofs.JudgeLaws.{fails, both_none}
@@ -51,9 +51,9 @@ one_passed i seen l ls j = found_passed l ls j refl
 
 -- ---- what isn't refused of it
 
-few_propositions : (opened halved : ℕ) (c : Counts) (lsb pieces cases : Bool)
-    → limit_kind opened halved c lsb pieces cases ≡ None → c.propositions ≤ 128
-few_propositions opened halved c lsb pieces cases h =
+few_propositions : (opened halved : ℕ) (c : Counts) (lsb pieces : Bool)
+    → limit_kind opened halved c lsb pieces ≡ None → c.propositions ≤ 128
+few_propositions opened halved c lsb pieces h =
     let nesting = fails (nat_lt 64 opened) _ _ h in
     let definitions = fails (nat_lt 256 c.definitions) _ _ nesting.1 in
     let propositions = fails (nat_lt 128 c.propositions) _ _ definitions.1 in
@@ -79,8 +79,7 @@ within_limits v seen l ls e =
     let limits = both_none (form_refusal v seen l.role l.word (has_arrow ls) ls)
     (limit_refusal after l.role l.word) e in
     few_propositions (length after.opened) (length after.names.halved) after.counts
-    (is_past_lsb l.role l.word) (is_past_pieces l.role l.word)
-    (is_past_cases l.role l.word (begun_cases after.splits.ranges)) limits.1
+    (is_past_lsb l.role l.word) (is_past_pieces l.role l.word) limits.1
 
 -- a name that is split has no definition
 pub split_plain : (v : Notes) (seen : Seen) (l : Leaf) (ls : List Leaf)
@@ -92,7 +91,7 @@ split_plain v seen l ls e =
     (limit_refusal (seen_after v seen l.role l.word) l.role l.word) e in
     not_defined (is_on_wrong_side l.role l.word (has_arrow ls) ls)
     (is_used seen.names (defines l.role l.word) ls) (is_bad_bound seen.bounds v.number)
-    (is_rangeless seen.splits.ranges (is_some_among seen.names.defined named) named)
+    (is_rangeless seen.said (is_some_among seen.names.defined named) named)
     (is_some_among seen.names.defined named) (has_no_pieces l.role l.word)
     (is_bad_point seen.splits (nat_lt 0 seen.counts.pieces) v.number) v.past form.0
 
@@ -102,15 +101,17 @@ split_plain v seen l ls e =
 record IsRead (text : List ℕ) : Type 0 where
   reading : Reading
   is : IsReadingOf text reading
-  judged : Judged 0 nothing_seen reading.leaves None
+  said : Option Said
+  judged : Judged 0 (nothing_seen said) reading.leaves None
 
 text_read : (text : List ℕ) (o : Option Refusal) → IsFirstRefusal text o → o ≡ None → IsRead text
 text_read text o (unread h) e = absurd (cc e)
-text_read text o (read {r = r} {found = found} k h j) e =
+text_read text o (read {r = r} {said = said} {found = found} k h q j) e =
     record {
       reading = r;
       is = h;
-      judged = subst (Judged 0 nothing_seen r.leaves)
+      said = said;
+      judged = subst (Judged 0 (nothing_seen said) r.leaves)
           (none_found r found (second_none (fault (length text) r) (refusal_of r found) e)) j;
     }
 
@@ -120,7 +121,7 @@ whole_taken ws n true s i = (s.whole refl).0
 whole_taken ws n false s i = absurd (s.not_whole refl i)
 
 pub spelled_passes : LexesOnce → LeavesAreOfTrees → (text : List ℕ) (s : View) (p : Spells text s)
-    → Judged 0 nothing_seen (script_leaves p.tree) None
+    → (said : Option Said) × Judged 0 (nothing_seen said) (script_leaves p.tree) None
 spelled_passes lexes are text s p =
     let found = text_read text None p.accepted refl in
     let r = found.reading in
@@ -132,4 +133,4 @@ spelled_passes lexes are text s p =
     (whole_taken r.words r.taken r.whole h.shape (p.tree, words)) ∙ take-length r.words in
     let leaves : r.leaves ≡ script_leaves p.tree =
     are p.tree r.words r.leaves words (subst (λ ws. HasRoles ws r.leaves) all h.roles) in
-    subst (λ ls. Judged 0 nothing_seen ls None) leaves found.judged
+    (found.said, subst (λ ls. Judged 0 (nothing_seen found.said) ls None) leaves found.judged)

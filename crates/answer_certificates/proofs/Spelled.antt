@@ -153,11 +153,11 @@ scripts_have_room short hints constraints cases lexes are slots text s before u 
     let passes = spelled_passes lexes are text s p in
     let few = cases text s p in
     let claimed : AreFewClaims s =
-    subst AreFewClaims (sym p.says) (claims_few p.tree nothing_known passes) in
+    subst AreFewClaims (sym p.says) (claims_few p.tree nothing_known passes.0 passes.1) in
     let numbered : AreNumbered s.nodes s.variables =
     subst (λ (v : View). AreNumbered v.nodes v.variables) (sym p.says) (script_numbered p.tree) in
     let splits : SplitsAreVariables s =
-    subst SplitsAreVariables (sym p.says) (splits_are_variables p.tree passes) in
+    subst SplitsAreVariables (sym p.says) (splits_are_variables p.tree passes.0 passes.1) in
     let fewer : AllByRecursion (λ c. length c ≤ length s.hypotheses) (cases_of s) =
     subst (λ (cs : List Claim). AllByRecursion (λ c. length c ≤ length cs) (cases_of s))
     (sym few.hypotheses) (cases_short s.parts) in

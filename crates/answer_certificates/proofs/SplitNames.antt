@@ -28,6 +28,7 @@ use Rattle.script_shape.proofs.Inner.{expr_inner}
 use Rattle.script_cases.proofs.Lists.{all_front, all_behind}
 use Rattle.script_judge.specs.Names.{is_among, is_some_among, with_some, ended, pending_after}
 use Rattle.script_judge.specs.Names.{defines, split_name}
+use Rattle.script_judge.specs.Said.{Said}
 use Rattle.script_judge.specs.Judge.{Seen, seen_after, Judged, nothing_seen}
 use Rattle.script_nodes.specs.Known.{Name, Known, entry_of, with_entry, named, nothing_known}
 use Rattle.script_nodes.specs.Values.{expr_value}
@@ -361,7 +362,8 @@ tree_split (define (names_value n h e) rest) k i seen j among =
     (entry_joins b.last.names.defined p.0.values (name_text n) p.1 same v.defined)
 
 -- In a script whose words pass the judge, all that hints split are variables.
-pub splits_are_variables : (tree : Script) → Judged 0 nothing_seen (script_leaves tree) None
+pub splits_are_variables : (tree : Script) (said : Option Said)
+    → Judged 0 (nothing_seen said) (script_leaves tree) None
     → AllByRecursion (IsVariable (meaning_from tree nothing_known).known.nodes)
     (meaning_from tree nothing_known).hints.order
-splits_are_variables tree j = tree_split tree nothing_known 0 nothing_seen j tt
+splits_are_variables tree said j = tree_split tree nothing_known 0 (nothing_seen said) j tt

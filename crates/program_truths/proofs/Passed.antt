@@ -1,6 +1,6 @@
 -- All words of a program's script pass the judge of scripts.
 use Rattle.std.proofs.Common.{◌≡◌, ◌≤◌, ◌+◌, ◌*◌, ◌||◌, not, ℕ, Bool, true, false, List, [], ◌∷◌}
-use Rattle.std.proofs.Common.{◌++◌, length, map, None, refl, sym, ap, ◌∙◌, subst, arith}
+use Rattle.std.proofs.Common.{◌++◌, length, map, Option, None, refl, sym, ap, ◌∙◌, subst, arith}
 use Rattle.std.proofs.Common.{append_assoc}
 use Rattle.std.specs.List.{AllByRecursion}
 use Rattle.std.specs.Str.{bytes_eq}
@@ -14,6 +14,7 @@ use Rattle.script_judge.specs.declared.counts.ScriptPart.TheVariants as place
 use Rattle.script_judge.specs.Names.{NamesSeen, no_names, is_new, is_among as judged_among}
 use Rattle.script_judge.specs.Counts.{one_if}
 use Rattle.script_judge.specs.Sides.{has_arrow}
+use Rattle.script_judge.specs.Said.{Said}
 use Rattle.script_judge.specs.Judge.{nothing_seen, Judged}
 use Rattle.script_nodes.specs.Literals.{LiteralsAreTold, LiteralsAreTested, SpelledOnce}
 use Rattle.fixprog.specs.Words.{Name}
@@ -519,8 +520,8 @@ module _ (told : LiteralsAreTold) (once : SpelledOnce) (tested : LiteralsAreTest
         let e = outputs_weigh (outputs p) in
         omega (arith, a, b, c, e)
 
-    stands : Stands nothing_seen (program_row p)
-    stands =
+    stands : (said : Option Said) → Stands (nothing_seen said) (program_row p)
+    stands said =
         let h = program_passes in
         let nodes = h.nodes in
         let definitions = h.definitions in
@@ -537,11 +538,14 @@ module _ (told : LiteralsAreTold) (once : SpelledOnce) (tested : LiteralsAreTest
           hints = refl;
           splits = refl;
           pieces = refl;
+          cases = refl;
+          conjunctions = refl;
           nodes = omega (arith, nodes, few);
           definitions = omega (arith, definitions, few);
           propositions = omega (arith, propositions, few);
         }
 
-    pub program_judged : Judged 0 nothing_seen (script_leaves (tree_of p)) None
-    program_judged = subst (λ l. Judged 0 nothing_seen l None) (sym (leaves_are p))
-        (passes tested once (program_row p) nothing_seen 0 stands)
+    pub program_judged : (said : Option Said)
+        → Judged 0 (nothing_seen said) (script_leaves (tree_of p)) None
+    program_judged said = subst (λ l. Judged 0 (nothing_seen said) l None) (sym (leaves_are p))
+        (passes tested once (program_row p) (nothing_seen said) 0 (stands said))

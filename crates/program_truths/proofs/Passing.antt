@@ -1,5 +1,6 @@
 -- Words that the judge of scripts lets pass, by tests of each kind apart.
-use Rattle.std.proofs.Common.{◌≡◌, ◌↔◌, ℕ, ◌+◌, ◌≤◌, ◌&&◌, not, nat_lt, Bool, true, false, List, []}
+use Rattle.std.proofs.Common.{◌≡◌, ◌↔◌, ℕ, ◌+◌, ◌*◌, ◌≤◌, ◌&&◌, not, nat_lt, Bool, true, false}
+use Rattle.std.proofs.Common.{List, []}
 use Rattle.std.proofs.Common.{◌∷◌, length, Option, Some, None, refl, sym, ap, ◌∙◌, subst, arith}
 use Rattle.fx_model.specs.Fraction.{Fraction}
 use Rattle.fx_model.specs.Grid.{signed}
@@ -11,7 +12,6 @@ use Rattle.script_words.specs.Words.{Word, name, literal, sign}
 use Rattle.script_shape.specs.declared.due.Due.{Due}
 use Rattle.script_shape.specs.declared.due.Due.TheVariants as d
 use Rattle.script_shape.specs.Roles.{Leaf}
-use Rattle.script_cases.specs.Parts.{begun_cases}
 use Rattle.script_bounds.specs.Texts.{IsNumber}
 use Rattle.script_judge.specs.declared.counts.Counts.{Counts}
 use Rattle.script_judge.specs.declared.counts.ScriptPart.{ScriptPart}
@@ -21,14 +21,15 @@ use Rattle.script_judge.specs.Names.{is_some_among, defines, split_name}
 use Rattle.script_judge.specs.Nesting.{opened_after}
 use Rattle.script_judge.specs.Counts.{one_if, is_equal_sign, place_after, begins_definition}
 use Rattle.script_judge.specs.Counts.{begins_proposition, begins_hint, nodes_at, splits_at}
-use Rattle.script_judge.specs.Counts.{pieces_after, rounds_after, halves_after}
+use Rattle.script_judge.specs.Counts.{pieces_after, rounds_after, halves_after, cases_after}
+use Rattle.script_judge.specs.Counts.{conjunctions_after}
 use Rattle.script_judge.specs.Bounds.{IsBoundOf, IsBoundText, IsWordNumber, BoundsSeen}
 use Rattle.script_judge.specs.Bounds.{bounds_after, is_bad_bound}
 use Rattle.script_judge.specs.Splits.{is_rangeless, is_bad_point}
 use Rattle.script_judge.specs.Numbers.{digits_of, has_no_pieces, is_past_lsb, is_past_pieces, Notes}
 use Rattle.script_judge.specs.Numbers.{is_number, IsPastWord, IsPast, Tells}
 use Rattle.script_judge.specs.Judge.{Seen, seen_after, is_ask, is_empty, is_on_wrong_side}
-use Rattle.script_judge.specs.Judge.{form_kind, limit_kind, is_past_cases, refusal_at, Judged}
+use Rattle.script_judge.specs.Judge.{form_kind, limit_kind, refusal_at, Judged}
 use Rattle.script_judge.specs.Judge.{none_refused, passed}
 use Rattle.script_judge.specs.Sides.{is_or, has_arrow}
 use Rattle.script_nodes.specs.Literals.{literal_of, LiteralsAreTested, SpelledOnce}
@@ -164,7 +165,6 @@ abbrev pub notes : Due → Word → List Leaf → Notes
 notes r w behind = record {
   past = false;
   number = number_at r w behind;
-  arrow_behind = has_arrow behind;
 }
 
 -- ---- what stands where words pass
@@ -182,6 +182,8 @@ pub record Stands (x : Seen) (ls : List Leaf) : Type 0 where
   pub hints : x.counts.hints ≡ 0
   pub splits : x.counts.splits ≡ 0
   pub pieces : x.counts.pieces ≡ 0
+  pub cases : x.counts.cases ≡ 1
+  pub conjunctions : x.counts.conjunctions ≡ 1
   pub nodes : x.counts.nodes + node_weight x.names ls ≤ 512
   pub definitions : x.counts.definitions + definition_weight ls ≤ 256
   pub propositions : x.counts.propositions + proposition_weight x.counts.place ls ≤ 128
@@ -217,10 +219,16 @@ no_pieces : (r : Due) (w : Word) (behind : List Leaf) → leaf_ok r w behind ≡
 no_pieces d.Cut w behind h = absurd (cc)
 no_pieces r w behind h = refl
 
-no_cases : (r : Due) (w : Word) (behind : List Leaf) (n : ℕ) → leaf_ok r w behind ≡ true
-    → is_past_cases r w n ≡ false
-no_cases d.Connective w behind n h = ap (λ b. b && nat_lt 64 n) (not_is (is_or w) h)
-no_cases r w behind n h = refl
+one_case : (r : Due) (w : Word) → cases_after 1 1 r w ≡ 1
+one_case d.Connective (sign s.Arrow) = refl
+one_case d.Connective w = refl
+one_case r w = refl
+
+one_conjunction : (r : Due) (w : Word) (behind : List Leaf) → leaf_ok r w behind ≡ true
+    → conjunctions_after 1 r w ≡ 1
+one_conjunction d.Connective (sign s.Or) behind h = absurd (cc)
+one_conjunction d.Connective w behind h = refl
+one_conjunction r w behind h = refl
 
 no_rounds : (r : Due) (w : Word) (behind : List Leaf) → leaf_ok r w behind ≡ true
     → rounds_after false r w ≡ false
@@ -249,12 +257,12 @@ form_none : (a b c e f g h i : Bool) → a ≡ false → b ≡ false → c ≡ f
     → g ≡ false → h ≡ false → i ≡ false → form_kind a b c e f g h i ≡ None
 form_none a b c e f g h i pa pb pc pe pf pg ph pi = rw (pa, pb, pc, pe, pf, pg, ph, pi) refl
 
-limit_none : (o n : ℕ) (c : Counts) (l p x : Bool) → nat_lt 64 o ≡ false
+limit_none : (o n : ℕ) (c : Counts) (l p : Bool) → nat_lt 64 o ≡ false
     → nat_lt 256 c.definitions ≡ false → nat_lt 128 c.propositions ≡ false
     → nat_lt 64 c.hints ≡ false → nat_lt 512 c.nodes ≡ false → l ≡ false
     → nat_lt 4 c.splits ≡ false → nat_lt 4 n ≡ false → nat_lt 64 c.pieces ≡ false → p ≡ false
-    → x ≡ false → limit_kind o n c l p x ≡ None
-limit_none o n c l p x po pd pp ph pn pl ps pv pc pi px =
+    → nat_lt 64 (c.cases * c.conjunctions) ≡ false → limit_kind o n c l p ≡ None
+limit_none o n c l p po pd pp ph pn pl ps pv pc pi px =
     rw (po, pd, pp, ph, pn, pl, ps, pv, pc, pi, px) refl
 
 module _ (tested : LiteralsAreTested) (once : SpelledOnce) where
@@ -329,7 +337,6 @@ module _ (tested : LiteralsAreTested) (once : SpelledOnce) where
   tells r w behind h = record {
     past = (λ p. absurd (cc), λ p. absurd (no_past r w behind h p));
     number = λ x. number_tells r w behind x h;
-    arrow = refl;
   }
 
   -- ---- one word
@@ -385,6 +392,10 @@ module _ (tested : LiteralsAreTested) (once : SpelledOnce) where
           ∙ ap (λ n. n + 0) h.splits;
       pieces = ap (λ n. pieces_after n l.role l.word) h.pieces
           ∙ still_no_pieces l.role l.word ls fine;
+      cases = (λ i. cases_after (h.cases i) (h.conjunctions i) l.role l.word)
+          ∙ one_case l.role l.word;
+      conjunctions = ap (λ n. conjunctions_after n l.role l.word) h.conjunctions
+          ∙ one_conjunction l.role l.word ls fine;
       nodes = let n = h.nodes in omega (arith, n, same_weight, same_names);
       definitions = let n = h.definitions in omega (arith, n);
       propositions = let n = h.propositions in omega (arith, n);
@@ -393,7 +404,7 @@ module _ (tested : LiteralsAreTested) (once : SpelledOnce) where
     no_form : form_kind (is_on_wrong_side l.role l.word (has_arrow ls) ls)
         (is_used x.names (defines l.role l.word) ls)
         (is_bad_bound x.bounds (number_at l.role l.word ls))
-        (is_rangeless x.splits.ranges
+        (is_rangeless x.said
         (is_some_among x.names.defined (split_name l.role l.word)) (split_name l.role l.word))
         (is_some_among x.names.defined (split_name l.role l.word)) (has_no_pieces l.role l.word)
         (is_bad_point x.splits (nat_lt 0 x.counts.pieces) (number_at l.role l.word ls)) false
@@ -403,19 +414,18 @@ module _ (tested : LiteralsAreTested) (once : SpelledOnce) where
         form_none _ _ _ _ _ _ _ _ (wrong_side l.role l.word ls fine) not_used
         (not_is _ (both (not (is_bad_bound x.bounds (number_at l.role l.word ls)))
         (bounds_ok next.bounds ls) h.bounds).0)
-        (ap (λ o. is_rangeless x.splits.ranges (is_some_among x.names.defined o) o) none)
+        (ap (λ o. is_rangeless x.said (is_some_among x.names.defined o) o) none)
         (ap (is_some_among x.names.defined) none) (no_cut l.role l.word ls fine)
         (ap (λ n. is_bad_point x.splits (nat_lt 0 n) (number_at l.role l.word ls)) h.pieces) refl
 
     no_limit : limit_kind (length next.opened) (length next.names.halved) next.counts
-        (is_past_lsb l.role l.word) (is_past_pieces l.role l.word)
-        (is_past_cases l.role l.word (begun_cases next.splits.ranges)) ≡ None
+        (is_past_lsb l.role l.word) (is_past_pieces l.role l.word) ≡ None
     no_limit =
         let n = stands_next in
         let nodes = n.nodes in
         let definitions = n.definitions in
         let propositions = n.propositions in
-        limit_none (length next.opened) (length next.names.halved) next.counts _ _ _ few_open
+        limit_none (length next.opened) (length next.names.halved) next.counts _ _ few_open
         (not_past_by 256 next.counts.definitions (omega (arith, definitions)))
         (not_past_by 128 next.counts.propositions (omega (arith, propositions)))
         (ap (nat_lt 64) n.hints)
@@ -423,7 +433,7 @@ module _ (tested : LiteralsAreTested) (once : SpelledOnce) where
         (no_lsb l.role l.word ls fine) (ap (nat_lt 4) n.splits)
         (ap (λ ns. nat_lt 4 (length ns)) none_halved) (ap (nat_lt 64) n.pieces)
         (no_pieces l.role l.word ls fine)
-        (no_cases l.role l.word ls (begun_cases next.splits.ranges) fine)
+        (λ i. nat_lt 64 (n.cases i * n.conjunctions i))
 
     not_refused : refusal_at (notes l.role l.word ls) x l.role l.word ls ≡ None
     not_refused = rw (no_form, no_limit) refl

@@ -252,7 +252,7 @@ module _ (law : EndsBeforeQuiet) (stay : ValuesStay) (told : LiteralsAreTold) (o
         let script : SpellsScript (script_of p) t = record {
           accepted = refused_nowhere spell (script_of p) (tree_of p) read
               (short text p spelled) (utf8 text p spelled)
-              (program_judged told once tested p faultless);
+              (program_judged told once tested p faultless _);
           lexed = read.lexed;
           tree = tree_of p;
           words = sym read.words;

@@ -1,6 +1,6 @@
 -- A program's script is refused nowhere.
-use Rattle.std.proofs.Common.{◌≡◌, ◌≤◌, ◌^◌, ℕ, true, List, [], ◌∷◌, ◌++◌, length, take, None, refl}
-use Rattle.std.proofs.Common.{sym, ap, ◌∙◌, subst, arith, append-nil}
+use Rattle.std.proofs.Common.{◌≡◌, ◌≤◌, ◌^◌, ℕ, true, List, [], ◌∷◌, ◌++◌, length, take, Some, None}
+use Rattle.std.proofs.Common.{refl, sym, ap, ◌∙◌, subst, arith, append-nil}
 use Rattle.std.specs.Prelude.{slice_get}
 use Rattle.std.specs.Str.{IsUtf8}
 use Rattle.std.proofs.lemmas.List.{length-map}
@@ -12,6 +12,8 @@ use Rattle.script_shape.specs.Tree.{Script, script_words}
 use Rattle.script_shape.specs.Roles.{script_leaves, HasRoles, LeavesSpell}
 use Rattle.script_shape.specs.ShapeLaw.{IsShapeOf}
 use Rattle.script_judge.specs.Reading.{Reading, IsReadingOf, fault, fault_at}
+use Rattle.script_nodes.specs.Known.{nothing_known}
+use Rattle.script_judge.specs.Said.{said_from, Says}
 use Rattle.script_judge.specs.Judge.{nothing_seen, Judged}
 use Rattle.script_judge.specs.First.{first_of, refusal_of, IsFirstRefusal, read}
 
@@ -75,9 +77,13 @@ module _ (spell : LeavesSpell) (text : List ℕ) (tree : Script)
     }
 
     pub refused_nowhere : length text ≤ 2 ^ 20 → IsUtf8 text
-        → Judged 0 nothing_seen (script_leaves tree) None → IsFirstRefusal text None
+        → Judged 0 (nothing_seen (Some (said_from tree nothing_known))) (script_leaves tree) None
+        → IsFirstRefusal text None
     refused_nowhere short utf8 judged =
         let none : first_of (fault (length text) reading) (refusal_of reading None) ≡ None =
         ap (λ o. first_of (fault_at (length text) reading o) None)
         (none_past (script_words tree)) in
-        subst (IsFirstRefusal text) none (read {r = reading} (short, utf8) is_reading judged)
+        let says : Says (script_leaves tree) (Some (said_from tree nothing_known)) =
+        (tree, [], sym (append-nil (script_leaves tree)), refl) in
+        subst (IsFirstRefusal text) none (read {r = reading}
+        {said = Some (said_from tree nothing_known)} (short, utf8) is_reading says judged)
