@@ -7,10 +7,10 @@ ghost use Rattle.cert_writer.specs.Written.{IsProvedWith};
 ghost use Rattle.prove_command.specs.Certified.{IsCertifiedBy, IsWrittenBy, name_of};
 
 use cert_writer::{WriteStop, write_cert};
+use command_line::Request;
 use command_runs::Status;
 use facts::HintMark;
 use fx_edge::{Folder, Gate};
-use proof_options::Options;
 use script_answers::{Found, prove_job, proved_lines, unbuilt_line};
 use script_grammar::{Script, parse};
 use script_texts::refused_line;
@@ -83,22 +83,21 @@ fn certify_job<F: Folder, G: Gate, R: Threads + Wait + Sync>(
     }
 }
 
-// What comes of a script.
+// What comes of a script, as the request asks for it.
 fn certify_script<F: Folder, G: Gate, R: Threads + Wait + Sync>(
     rt: &R,
     alloc: Global,
     script: &Script<'_>,
-    options: Options,
+    request: &Request<'_>,
     folder: &mut F,
-    cert: Option<&str>,
     gate: &G,
 ) -> Result<Certified, AllocError>
-    requires { AreAllowed options }
-    ensures { IsCertifiedBy F.Folder (options_from options) script.now.text
-        (name_of cert.entry) folder.old folder.new result }
+    requires { AreAllowed request.now.options }
+    ensures { IsCertifiedBy F.Folder (options_from request.now.options) script.now.text
+        (name_of request.now.cert) folder.old folder.new result }
 {
-    match Job::new(alloc, script, options) {
-        Ok(mut job) => certify_job(rt, alloc, &mut job, folder, cert, gate),
+    match Job::new(alloc, script, request.options) {
+        Ok(mut job) => certify_job(rt, alloc, &mut job, folder, request.cert, gate),
         Err(fault) => {
             let lines = unbuilt_line(alloc, script, fault)?;
             Ok(Certified {
@@ -110,24 +109,23 @@ fn certify_script<F: Folder, G: Gate, R: Threads + Wait + Sync>(
     }
 }
 
-/// What comes of a text under the options: its status and lines, and where a name is given and all
-/// goals are settled, the certificate, which is written under that name once the lines are made.
-/// `Err` only where memory runs out before anything is written. It may wait.
+/// What comes of a text, as the request asks for it: its status and lines under the options, and
+/// where a file is named and all goals are settled, the certificate, which is written there once
+/// the lines are made. `Err` only where memory runs out before anything is written. It may wait.
 pub fn certify_text<F: Folder, G: Gate, R: Threads + Wait + Sync>(
     rt: &R,
     alloc: Global,
     text: &[u8],
-    options: Options,
+    request: &Request<'_>,
     folder: &mut F,
-    cert: Option<&str>,
     gate: &G,
 ) -> Result<Certified, AllocError>
-    requires { AreAllowed options }
-    ensures { IsCertifiedBy F.Folder (options_from options) text.now
-        (name_of cert.entry) folder.old folder.new result }
+    requires { AreAllowed request.now.options }
+    ensures { IsCertifiedBy F.Folder (options_from request.now.options) text.now
+        (name_of request.now.cert) folder.old folder.new result }
 {
     match parse(alloc, text) {
-        Ok(script) => certify_script(rt, alloc, &script, options, folder, cert, gate),
+        Ok(script) => certify_script(rt, alloc, &script, request, folder, gate),
         Err(stop) => {
             let lines = refused_line(alloc, text, stop)?;
             Ok(Certified {

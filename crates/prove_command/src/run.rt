@@ -53,13 +53,10 @@ pub fn run_prove<F: Folder, O: Sink, G: Gate, R: Threads + Wait + Sync>(
 {
     text_answers_are_one();
     match read_script(alloc, folder, request.script) {
-        Ok(text) => {
-            let options = request.options;
-            match certify_text(rt, alloc, &text, options, folder, request.cert, gate) {
-                Ok(certified) => put_certified(out, &certified),
-                Err(_) => Status::OutOfMemory,
-            }
-        }
+        Ok(text) => match certify_text(rt, alloc, &text, &request, folder, gate) {
+            Ok(certified) => put_certified(out, &certified),
+            Err(_) => Status::OutOfMemory,
+        },
         Err(stop) => print_stop(alloc, request.script, stop, out),
     }
 }

@@ -14,18 +14,20 @@ unbuilt_line-requires g c = λ e. c.in-Err.ensures.many (ap Err e)
 
 pub returns-in-Ok : goal.returns-in-Ok
 returns-in-Ok g c =
-    subst (λ (v : View). IsCertifiedBy g.F.Folder (options_from c.args.options) v.text
-    (name_of c.args.cert) c.args.folder.now c.certify_job.new.folder c.certify_job.result)
+    let request = c.args.request.now in
+    subst (λ (v : View). IsCertifiedBy g.F.Folder (options_from request.options) v.text
+    (name_of request.cert) c.args.folder.now c.certify_job.new.folder c.certify_job.result)
     c.in-Ok.ensures.script
     (subst (λ (o : Options). IsCertifiedBy g.F.Folder (options_from o)
-    c.in-Ok.job.script.now.text (name_of c.args.cert) c.args.folder.now
+    c.in-Ok.job.script.now.text (name_of request.cert) c.args.folder.now
     c.certify_job.new.folder c.certify_job.result) c.in-Ok.ensures.options c.certify_job.ensures)
 
 pub returns-in_ok-lines-in-Err : goal.returns-in_ok-lines-in-Err
 returns-in_ok-lines-in-Err g c =
-    spared_by g.F.Folder (options_from c.args.options) c.args.script.now.text
-    (name_of c.args.cert) c.args.folder.now _ (record {
+    let request = c.args.request.now in
+    spared_by g.F.Folder (options_from request.options) c.args.script.now.text
+    (name_of request.cert) c.args.folder.now _ (record {
       other = λ e. cc e;
-      prints = c.in_ok-lines-in-Err.ensures (options_from c.args.options);
+      prints = c.in_ok-lines-in-Err.ensures (options_from request.options);
       done = λ h. h;
     })

@@ -11,12 +11,14 @@ refused_line-requires g c = λ r e. c.in-Err.ensures.refused r (ap Err e)
 
 pub returns-in-Ok : goal.returns-in-Ok
 returns-in-Ok g c =
-    subst (λ (text : List ℕ). IsCertifiedBy g.F.Folder (options_from c.args.options) text
-    (name_of c.args.cert) c.args.folder.now c.certify_script.new.folder c.certify_script.result)
+    let request = c.args.request.now in
+    subst (λ (text : List ℕ). IsCertifiedBy g.F.Folder (options_from request.options) text
+    (name_of request.cert) c.args.folder.now c.certify_script.new.folder c.certify_script.result)
     (ap (λ (v : View). v.text) c.in-Ok.ensures.spelled.says) c.certify_script.ensures
 
 pub returns-in_ok-lines-in-Err : goal.returns-in_ok-lines-in-Err
 returns-in_ok-lines-in-Err g c =
-    spared_by g.F.Folder (options_from c.args.options) c.args.text.now (name_of c.args.cert)
+    let request = c.args.request.now in
+    spared_by g.F.Folder (options_from request.options) c.args.text.now (name_of request.cert)
     c.args.folder.now _
     (record { other = λ e. cc e; prints = c.in_ok-lines-in-Err.ensures; done = λ h. h })
