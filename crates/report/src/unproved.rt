@@ -4,6 +4,7 @@ ghost use Rattle.std.specs.Prelude.{◌≡◌, ◌++◌, IfOk, OnOk};
 ghost use Rattle.report.specs.Unproved as spec;
 
 use crate::proved::put_interval;
+use bisect::OpenLeaf;
 use box_tree::Plan;
 use fx_edge::Path;
 use fx_model::{ExprId, Node};
@@ -75,30 +76,27 @@ fn put_case(alloc: Global, line: &mut Vec<u8>, cases: usize, case: u8) -> Result
     line.extend_from_slice(text.as_bytes())
 }
 
-/// The line of the goal of this number which isn't settled in the box at the path, in this case of
-/// so many; goals and cases are counted from 0. The plan is that of the case. The line has the
-/// ranges of the script's split variables in the box, in the order in which hints first name them.
-/// `Err` only where memory runs out.
+/// The line of an open leaf, whose case is one of so many. The plan is that of the case. The line
+/// has the ranges of the script's split variables in the leaf's box, in the order in which hints
+/// first name them. `Err` only where memory runs out.
 pub fn unproved_text(
     alloc: Global,
     script: &Script<'_>,
     plan: &Plan,
     cases: usize,
-    case: u8,
-    path: &Path,
-    goal: u16,
+    leaf: &OpenLeaf,
 ) -> Result<Vec<u8>, AllocError>
-    ensures { IfOk result (λ line.
-        line.items ≡ spec.unproved_text script.now plan.now cases case path.now goal) }
+    ensures { IfOk result (λ line. line.items
+        ≡ spec.unproved_text script.now plan.now cases leaf.now.case leaf.now.path leaf.now.goal) }
 {
-    let number = u32::from(goal) + 1;
+    let number = u32::from(leaf.goal) + 1;
     let mut line = format!(in alloc; "unproved: goal {number} at ")?.into_bytes();
-    put_case(alloc, &mut line, cases, case)?;
+    put_case(alloc, &mut line, cases, leaf.case)?;
     put_box(
         &mut line,
         script,
         plan,
-        path,
+        &leaf.path,
         script.hints().order.as_slice(),
     )?;
     line.extend_from_slice("\n".as_bytes())?;

@@ -43,15 +43,7 @@ fn open_line(alloc: Global, job: &Job<'_, '_>, leaf: OpenLeaf) -> Result<Vec<u8>
 {
     let number = usize::from(leaf.case);
     let case = &job.cases[number];
-    unproved_text(
-        alloc,
-        job.script,
-        &case.plan,
-        job.cases.len(),
-        leaf.case,
-        &leaf.path,
-        leaf.goal,
-    )
+    unproved_text(alloc, job.script, &case.plan, job.cases.len(), &leaf)
 }
 
 // What is found of a job that comes to this. `Err` only where memory runs out.
