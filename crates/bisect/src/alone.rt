@@ -66,18 +66,18 @@ impl Walk {
     }
 }
 
-/// Walks over the box and those below it, each settled from the entry of the one above. False says
-/// that there are more boxes than the limit. Lack of memory is the only error.
+/// Walks over the box and those below it, each settled from the entry of the one above. No box is
+/// cut that lies 36 cuts deep. False says that there are more boxes than the limit. Lack of memory
+/// is the only error.
 pub fn visit<'a, S: Settler>(
     alloc: Global,
     settler: &'a S,
-    plan: &Plan,
     path: Path,
     parent: Option<&'a S::Entry>,
     area: &mut S::Area,
     walk: &mut Walk,
 ) -> Result<bool, AllocError>
-    requires plan { (p : List ℕ) → cut_at plan.now p ≡ S.Entry.cut_at p }
+    requires bottom { (p : List ℕ) → 36 ≤ length p → piece_count (S.Entry.cut_at p) ≡ 0 }
     requires path { IsPathOf (λ p. piece_count (S.Entry.cut_at p)) path }
     requires parent { MatchOption parent (path ≡ []) (λ e. IsChild (S.Entry.path_of e.now) path) }
     requires depth { length path ≤ 36 }
@@ -91,7 +91,6 @@ pub fn visit<'a, S: Settler>(
         + length (boxes_from (tree_of S.Entry.cut_at S.Entry.state_at) (36 - length path) path)) }
     ensures within { StaysWithin walk.old walk.new }
 {
-    plan.laws();
     if walk.boxes == walk.limit {
         return Ok(false);
     }
@@ -99,15 +98,7 @@ pub fn visit<'a, S: Settler>(
     let count = children(cut, &state);
     walk.see(path, state, count)?;
     for i in 0..count {
-        if !visit(
-            alloc,
-            settler,
-            plan,
-            path.child(i),
-            Some(&entry),
-            area,
-            walk,
-        )? {
+        if !visit(alloc, settler, path.child(i), Some(&entry), area, walk)? {
             return Ok(false);
         }
     }
@@ -133,15 +124,7 @@ pub fn run_alone<S: Settler>(
     };
     let parent: Option<&S::Entry> = None;
     let mut area = settler.area(alloc);
-    if !visit(
-        alloc,
-        settler,
-        plan,
-        Path::root(),
-        parent,
-        &mut area,
-        &mut walk,
-    )? {
+    if !visit(alloc, settler, Path::root(), parent, &mut area, &mut walk)? {
         return Ok(Outcome::BoxLimit);
     }
     match walk.first {

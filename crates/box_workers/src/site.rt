@@ -187,15 +187,7 @@ impl<'a, S: Settler, G: Gate> Site<'a, S, G> {
             None => None,
         };
         let mut area = self.area();
-        visit(
-            self.alloc,
-            self.settler,
-            self.plan,
-            path,
-            parent,
-            &mut area,
-            walk,
-        )
+        visit(self.alloc, self.settler, path, parent, &mut area, walk)
     }
 
     // Into how many pieces the box is cut.

@@ -1,7 +1,5 @@
 use Rattle.std.proofs.Common.{arith, ◌≡◌, ◌≤◌, ◌-◌, List, ℕ, length, sym, ap, subst, ◌∙◌}
-use Rattle.box_tree.specs.declared.cut.Cut.{Cut}
 use Rattle.box_tree.specs.Pieces.{piece_count}
-use Rattle.box_tree.specs.Plans.{cut_at}
 use Rattle.box_tree.specs.Paths.{IsPathOf}
 use Rattle.bisect.specs.Trees.{tree_of}
 use Rattle.bisect.specs.Walks.{seen_by}
@@ -9,13 +7,6 @@ use Rattle.bisect.proofs.Paths.{child_path}
 use Rattle.bisect.proofs.Walks.{above_bottom, walk_begin, walk_on, walk_over, walk_done}
 use Rattle.bisect.proofs.Walks.{boxes_positive}
 use Rattle.bisect.proofs.alone.+visit.Goals as goal
-
--- a box that lies so deep has no piece by its cut
-at_bottom : (cuts all : List ℕ → Cut) (p : List ℕ) (c : Cut) → c ≡ all p
-    → ((q : List ℕ) → cuts q ≡ all q)
-    → ((q : List ℕ) → 36 ≤ length q → piece_count (cuts q) ≡ 0)
-    → 36 ≤ length p → piece_count c ≡ 0
-at_bottom cuts all p c e f laws deep = ap piece_count (e ∙ sym (f p)) ∙ laws p deep
 
 pub returns-then-walk-clause-over : goal.returns-then-walk-clause-over
 returns-then-walk-clause-over g t c = λ _.
@@ -34,8 +25,8 @@ loop-i-init g t c =
           (seen_by c.args.walk.now.boxes c.args.walk.now.first c.args.walk.now.leaves.items)
           (seen_by c.see.new.self.boxes c.see.new.self.first c.see.new.self.leaves.items)
           cut c.in_ok-entry.field-0.state c.children-count.result
-          (above_bottom tree c.args.path cut (at_bottom (cut_at c.args.plan.now)
-          g.S.Entry.Posted.cut_at c.args.path cut e c.requires.plan c.laws.ensures) e)
+          (above_bottom tree c.args.path cut
+          (λ deep. ap piece_count e ∙ c.requires.bottom c.args.path deep) e)
           c.in_ok-see.ensures.seen c.in_ok-entry.ensures.state c.children-count.ensures.count e;
       room = c.see.ensures.within.room;
       limit = c.see.ensures.within.limit;

@@ -1,4 +1,5 @@
 use Rattle.std.proofs.Common.{arith, ◌≡◌, ◌-◌, [], List, ℕ, None, length, refl, sym, ap, ◌∙◌}
+use Rattle.box_tree.specs.Pieces.{piece_count}
 use Rattle.box_tree.specs.Plans.{cut_at}
 use Rattle.bisect.specs.declared.outcome.Leaf.{Leaf}
 use Rattle.bisect.specs.Trees.{Tree, tree_of}
@@ -17,6 +18,10 @@ whole_walk : (t : Tree) (p : List ℕ) (ls : List Leaf) (w : Seen)
 whole_walk t p ls w e f s =
     s ∙ (ap (λ (l : List Leaf). after t (seen_by 0 None l) (boxes_from t (36 - length p) p)) f
     ∙ ap (λ (ps : List (List ℕ)). after t (seen_by 0 None []) ps) (root_boxes t p e))
+
+pub visit-requires-clause-bottom : goal.visit-requires-clause-bottom
+visit-requires-clause-bottom g c κs within = λ p deep.
+    ap piece_count (sym (c.requires.plan p)) ∙ c.laws.ensures p deep
 
 pub returns-then-not-branch : goal.returns-then-not-branch
 returns-then-not-branch g c =

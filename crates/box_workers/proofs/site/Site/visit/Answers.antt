@@ -1,9 +1,15 @@
 use Rattle.std.proofs.Common.{◌≡◌, ◌<◌, ◌+◌, ℕ, List, Bool, IsTrue, false, length, ◌-◌, arith}
+use Rattle.std.proofs.Common.{ap, sym, ◌∙◌}
 use Rattle.std.proofs.lemmas.Result.{IfOk-weaker}
+use Rattle.box_tree.specs.Pieces.{piece_count}
 use Rattle.bisect.specs.Trees.{Tree, tree_of}
 use Rattle.bisect.specs.Walks.{Seen, seen_by, boxes_from, after}
 use Rattle.box_workers.proofs.Walking.{visited, total_ones}
 use Rattle.box_workers.proofs.site.Site.visit.Goals as goal
+
+pub visit-requires-clause-bottom : goal.visit-requires-clause-bottom
+visit-requires-clause-bottom g c κs within = λ p deep.
+    ap piece_count (sym (c.self.invariant p)) ∙ c.laws.ensures p deep
 
 pub returns-clause-all : goal.returns-clause-all
 returns-clause-all g c =
