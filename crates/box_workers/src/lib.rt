@@ -13,12 +13,11 @@ mod site;
 mod start;
 mod take;
 mod task;
-mod worker;
 mod workers;
 
 pub use counts::Counts;
 pub use fate::{Held, HeldWhy};
-pub use record::Record;
+pub use record::{Record, work};
+pub use site::Site;
 pub use task::BoxTask;
-pub use worker::work;
 pub use workers::run;

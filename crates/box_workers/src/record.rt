@@ -79,8 +79,11 @@ fn enter<S: Settler, G: Gate, Q: Naming<Board<S::Entry>>, R: Wait>(
     }
 }
 
-/// The whole loop of one worker. It ends with a held box, or after a turn in which it found no box.
-pub fn work_at<S: Settler, G: Gate, Q: Naming<Board<S::Entry>>, R: Wait>(
+/// The whole loop of one worker. The record tells what became of every box that this call took. It
+/// ends with a held box, or after a turn in which it found no box: then the lane is dry, and each
+/// steal of another lane found nothing. The hand is the lane's worker's, and the thieves are those
+/// of the other lanes. It may wait.
+pub fn work<S: Settler, G: Gate, Q: Naming<Board<S::Entry>>, R: Wait>(
     rt: &R,
     site: &Site<'_, S, G>,
     lane: &mut Lane<BoxTask<S::Entry>, Q>,

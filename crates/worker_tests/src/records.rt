@@ -7,7 +7,7 @@ use crate::tree::{NONE, Spot, World, halves, two_ways};
 use bisect::Posted;
 use box_deques::{Naming, Task, hands, pool};
 use box_tree::Plan;
-use box_workers::{BoxTask, Counts, Held, HeldWhy, Record, work};
+use box_workers::{BoxTask, Counts, Held, HeldWhy, Record, Site, work};
 use fact_board::Board;
 use fx_edge::OpenGate;
 use std::alloc::{AllocError, Global};
@@ -60,20 +60,11 @@ fn work_with<W: World, Q: Naming<Board<Spot<W>>>, R: Wait>(
     };
     let settler = two_ways::<W>(plan, NONE);
     let counts = Counts::new();
+    let gate = OpenGate;
+    let site = Site::new(alloc, &settler, &gate, plan, board, &counts);
     let none = Vec::new(alloc);
     let hand = &mut hands[0];
-    let done = work(
-        rt,
-        alloc,
-        &settler,
-        &OpenGate,
-        plan,
-        board,
-        lane,
-        none.as_slice(),
-        hand,
-        &counts,
-    );
+    let done = work(rt, &site, lane, none.as_slice(), hand);
     Ok(did(&done))
 }
 
