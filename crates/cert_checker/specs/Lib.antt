@@ -3,6 +3,7 @@ pub mod Open
 pub mod Contexts
 pub mod Given
 pub mod Steps
+pub mod Sources
 pub mod Faults
 pub mod After
 pub mod Accepted

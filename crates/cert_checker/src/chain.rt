@@ -8,6 +8,7 @@ ghost use Rattle.cert_checker.specs.Faults.{IsJudged, JudgesContent, HasCases, c
 ghost use Rattle.cert_checker.specs.Standing.{Standing, begun, ChangesByContent, Changes, Takes};
 ghost use Rattle.cert_checker.specs.Standing.{HasRoom, left};
 
+use crate::conclude::Sources;
 use crate::cuts::Cuts;
 use crate::fault::{CheckFault, TakeStop};
 use crate::judge::{judge_cut, judge_dead, judge_leaf, judge_step};
@@ -206,15 +207,13 @@ impl Chain {
             (JudgesContent self.old.subject self.old.context (item.Step row.now)) result }
         ensures same { self.new ≡ self.old }
     {
-        judge_step(
-            &self.subject,
-            self.case,
-            &self.nodes,
-            &self.cuts,
-            &self.steps,
-            row,
-            &mut self.premises,
-        )
+        let sources = Sources {
+            subject: &self.subject,
+            case: self.case,
+            nodes: &self.nodes,
+            cuts: &self.cuts,
+        };
+        judge_step(&sources, &self.steps, row, &mut self.premises)
     }
 
     fn take_step(&mut self, row: &StepRow) -> Result<(), TakeStop>

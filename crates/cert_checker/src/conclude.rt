@@ -2,9 +2,9 @@
 ghost use Rattle.std.specs.Prelude.{◌≡◌, ◌↔◌, IsTrue, Some, None, MatchOption, Option, IfOk};
 ghost use Rattle.fx_model.specs.declared.Node.{Node};
 ghost use Rattle.facts.specs.declared.fact.Fact.TheVariants as fact_of;
-ghost use Rattle.cert_checker.specs.Contexts.{open_piece};
 ghost use Rattle.cert_checker.specs.Steps as spec;
 ghost use Rattle.cert_checker.specs.Steps.{Concludes, IsMetWith, IsLike, Found};
+ghost use Rattle.cert_checker.specs.Sources.{givens_of};
 
 use crate::cuts::Cuts;
 use crate::given::Given;
@@ -17,6 +17,19 @@ use fx_model::{ExprId, Node};
 use interval::Interval;
 use std::alloc::AllocError;
 use theorem_list::conclude;
+
+/// What rules draw on beside premises.
+#[derive(Clone, Copy)]
+pub struct Sources<'a> {
+    /// What the script says: the facts of its cases, and the rows of its hints.
+    pub subject: &'a Subject,
+    /// The number of the case that is open, from 0.
+    pub case: usize,
+    /// The nodes so far.
+    pub nodes: &'a Dag,
+    /// The cuts around the open section.
+    pub cuts: &'a Cuts,
+}
 
 // Whether each node of the fact is in the list.
 fn are_known(nodes: &Dag, fact: &Fact) -> bool
@@ -89,21 +102,19 @@ fn only_for(arg: u16, fact: Option<Fact>) -> Option<Fact>
 
 // What the step's rule gives.
 fn gives(
-    subject: &Subject,
-    case: usize,
-    nodes: &Dag,
-    cuts: &Cuts,
+    sources: &Sources<'_>,
     row: &StepRow,
     premises: &[Fact],
     with: Option<Fact>,
 ) -> Option<Fact>
-    ensures { result ≡ spec.gives (record {
-      facts = spec.case_facts subject.now.cases case;
-      hints = subject.now.hints;
-      nodes = nodes.now;
-      piece = open_piece cuts.now;
-    }) row.now premises.now with }
+    ensures { result ≡ spec.gives (givens_of sources.now) row.now premises.now with }
 {
+    let Sources {
+        subject,
+        case,
+        nodes,
+        cuts,
+    } = *sources;
     match Given::of(row.rule) {
         Some(Given::Hypothesis) => without(premises, hypothesis(subject.facts(case), row.arg)),
         Some(Given::Variable) => without(premises, only_for(row.arg, whole_line(nodes, &row.fact))),
@@ -157,26 +168,19 @@ fn is_enough(given: Option<Fact>, with: Option<Fact>, fact: &Fact) -> bool
 /// Whether the stated fact is no stronger than what the rule gives from these premises, met with
 /// the fact that is cited for that.
 pub fn is_concluded(
-    subject: &Subject,
-    case: usize,
-    nodes: &Dag,
-    cuts: &Cuts,
+    sources: &Sources<'_>,
     row: &StepRow,
     premises: &[Fact],
     with: Option<Fact>,
 ) -> bool
     requires { IsLike row.now.fact with }
-    ensures { IsTrue result ↔ Concludes (record {
-      facts = spec.case_facts subject.now.cases case;
-      hints = subject.now.hints;
-      nodes = nodes.now;
-      piece = open_piece cuts.now;
-    }) row.now premises.now with }
+    ensures { IsTrue result
+        ↔ Concludes (givens_of sources.now) row.now premises.now with }
 {
-    if !are_known(nodes, &row.fact) {
+    if !are_known(sources.nodes, &row.fact) {
         return false;
     }
-    let given = gives(subject, case, nodes, cuts, row, premises, with);
+    let given = gives(sources, row, premises, with);
     is_enough(given, with, &row.fact)
 }
 

@@ -1,16 +1,13 @@
 //! What is wrong with steps and with ends of sections, if anything.
 ghost use Rattle.std.specs.Prelude.{◌≡◌, ◌<◌, ◌↔◌, IsTrue, MatchOption, Some, length};
 ghost use Rattle.facts.specs.declared.fact.Fact.TheVariants as fact;
-ghost use Rattle.cert_checker.specs.Contexts.{open_piece};
-ghost use Rattle.cert_checker.specs.Steps.{case_facts};
+ghost use Rattle.cert_checker.specs.Sources.{givens_of};
 ghost use Rattle.cert_checker.specs.Faults.{IsJudged, JudgesStep, JudgesCut, JudgesLeaf};
 ghost use Rattle.cert_checker.specs.Faults.{JudgesDead, AreSettled, IsFirstMissing, IsSettledBy};
 
-use crate::conclude::{is_concluded, is_like, premise_facts, with_fact};
-use crate::cuts::Cuts;
+use crate::conclude::{Sources, is_concluded, is_like, premise_facts, with_fact};
 use crate::fault::{CheckFault, TakeStop};
 use crate::open::OpenSteps;
-use crate::subject::Subject;
 use cert_bytes::StepRow;
 use expr_dag::Dag;
 use facts::Fact;
@@ -26,20 +23,13 @@ fn refuse(fault: CheckFault) -> Result<(), TakeStop>
 /// Whether the step cites what it may, and is concluded. The facts of its premises are left in
 /// `premises`.
 pub fn judge_step(
-    subject: &Subject,
-    case: usize,
-    nodes: &Dag,
-    cuts: &Cuts,
+    sources: &Sources<'_>,
     steps: &OpenSteps,
     row: &StepRow,
     premises: &mut Vec<Fact>,
 ) -> Result<(), TakeStop>
-    ensures { IsJudged (JudgesStep (record {
-      facts = case_facts subject.now.cases case;
-      hints = subject.now.hints;
-      nodes = nodes.now;
-      piece = open_piece cuts.now;
-    }) steps.now.rows steps.now.next row.now) result }
+    ensures { IsJudged (JudgesStep (givens_of sources.now) steps.now.rows steps.now.next row.now)
+        result }
 {
     let bad_premise = CheckFault::BadPremise(steps.next());
     if !premise_facts(steps, row.premises.as_slice(), premises)? {
@@ -51,7 +41,7 @@ pub fn judge_step(
     if !is_like(&row.fact, with) {
         return refuse(bad_premise);
     }
-    if !is_concluded(subject, case, nodes, cuts, row, premises, with) {
+    if !is_concluded(sources, row, premises, with) {
         return refuse(CheckFault::BadStep(steps.next()));
     }
     Ok(())

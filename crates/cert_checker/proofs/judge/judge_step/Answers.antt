@@ -1,7 +1,7 @@
 use Rattle.std.proofs.Common.{rules, refl, ◌≡◌, Some}
 use Rattle.cert_checker.proofs.Judged.{not_concluded, cites}
-use Rattle.cert_checker.specs.Contexts.{open_piece}
-use Rattle.cert_checker.specs.Steps.{step_facts, case_facts}
+use Rattle.cert_checker.specs.Steps.{step_facts}
+use Rattle.cert_checker.specs.Sources.{givens_of}
 use Rattle.cert_checker.proofs.judge.judge_step.Goals as goal
 
 pub returns-then-not-is_concluded : goal.returns-then-not-is_concluded
@@ -13,11 +13,6 @@ returns-then-not-is_concluded c =
       refl,
       cites c.args.steps.now.rows c.args.row.now c.premise_facts.new.premises.items c.in-Some.with
           found met (search rules),
-      not_concluded (record {
-        facts = case_facts c.args.subject.now.cases c.args.case;
-        hints = c.args.subject.now.hints;
-        nodes = c.args.nodes.now;
-        piece = open_piece c.args.cuts.now;
-      }) c.args.steps.now.rows c.args.row.now c.premise_facts.new.premises.items c.in-Some.with
-          found met (search rules),
+      not_concluded (givens_of c.args.sources.now) c.args.steps.now.rows c.args.row.now
+          c.premise_facts.new.premises.items c.in-Some.with found met (search rules),
     )
