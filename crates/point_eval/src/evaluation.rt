@@ -14,7 +14,7 @@ ghost use Rattle.point_eval.specs.Judged.{judged_of, EndsIn};
 use crate::laws::meeting_is_told;
 use crate::point::Point;
 use facts::HintMark;
-use point_values::{EvalStop, Place};
+use point_values::{EvalStop, Judged, Place};
 use script_claims::Claim;
 use script_grammar::Script;
 use std::alloc::{AllocError, Global};
@@ -56,16 +56,15 @@ fn evaluate_cases(
         → IsTooWide (judged_of script.now marks.now) point.now.rows p }
 {
     script.laws();
-    point_values::evaluate(
-        alloc,
-        script.nodes(),
-        script.hypotheses(),
-        listed,
-        script.goals(),
-        script.hints().rewrites.as_slice(),
+    let judged = Judged {
+        dag: script.nodes(),
+        hypotheses: script.hypotheses(),
+        cases: listed,
+        goals: script.goals(),
+        hints: script.hints().rewrites.as_slice(),
         marks,
-        point.rows.as_slice(),
-    )
+    };
+    point_values::evaluate(alloc, &judged, point.rows.as_slice())
 }
 
 /// What the script's claims and assumed hints are at the point, as lines; or the first place with

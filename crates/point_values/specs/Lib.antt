@@ -8,4 +8,5 @@ pub mod Shown
 pub mod Evaluation
 pub mod Among
 pub mod Within
+pub mod Judged
 pub mod Told

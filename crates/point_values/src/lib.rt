@@ -15,6 +15,6 @@ mod shown;
 mod sides;
 mod values;
 
-pub use evaluation::evaluate;
+pub use evaluation::{Judged, evaluate};
 pub use laws::tests_are_told;
 pub use place::{EvalStop, Place};
