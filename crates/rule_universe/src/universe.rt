@@ -1,6 +1,6 @@
 //! A universe, whose lists nothing changes.
 
-ghost use Rattle.std.specs.Prelude.{◌≡◌, ◌<◌, ◌≤◌, Some, length, slice_get, IfOk};
+ghost use Rattle.std.specs.Prelude.{◌≡◌, ◌<◌, ◌≤◌, [], Some, length, slice_get, IfOk};
 ghost use Rattle.fx_model.specs.Expression.{IsOrdered};
 ghost use Rattle.facts.specs.declared.fact.Slot.{Slot};
 ghost use Rattle.facts.specs.declared.instance.Instance.{Instance};
@@ -92,13 +92,13 @@ impl Model for Universe {
 }
 
 impl Universe {
-    /// The universe of these lists. A goal has a number of 16 bits.
+    /// The universe of these lists, in which nothing is assumed yet. A goal has a number of 16
+    /// bits.
     pub fn new(
         alloc: Global,
         nodes: Dag,
         pairs: PairIndex,
         goals: Vec<Goal>,
-        hypotheses: Vec<Fact>,
         hints: Vec<HintRow>,
         instances: Vec<Instance>,
     ) -> Result<Universe, AllocError>
@@ -106,7 +106,7 @@ impl Universe {
           nodes = nodes;
           pairs = pairs;
           goals = goals.items;
-          hypotheses = hypotheses.items;
+          hypotheses = [];
           hints = hints.items;
           instances = instances.items;
         }) }
@@ -115,7 +115,7 @@ impl Universe {
           nodes = nodes;
           pairs = pairs;
           goals = goals.items;
-          hypotheses = hypotheses.items;
+          hypotheses = [];
           hints = hints.items;
           instances = instances.items;
         }) }
@@ -125,6 +125,7 @@ impl Universe {
         let targets = target_places(alloc, &nodes, &pairs, &instances)?;
         let premises = placed_premises(alloc, &nodes, &pairs, &instances)?;
         let list = pairs.to_vec(alloc)?;
+        let hypotheses = Vec::new(alloc);
         let order = Vec::new(alloc);
         Ok(Universe {
             nodes,

@@ -76,8 +76,7 @@ pub fn build(alloc: Global, script: &Script<'_>) -> Result<Universe, UniverseFau
     let goals = goals_of(alloc, script.goals())?;
     nodes.laws();
     pairs.laws();
-    let nothing = Vec::new(alloc);
-    let universe = Universe::new(alloc, nodes, pairs, goals, nothing, rows, instances)?;
+    let universe = Universe::new(alloc, nodes, pairs, goals, rows, instances)?;
     let ordered = in_order(alloc, universe, script)?;
     Ok(ordered)
 }

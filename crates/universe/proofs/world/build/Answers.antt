@@ -1,4 +1,4 @@
-use Rattle.std.proofs.Common.{◌≡◌, [], ◌≤◌, length, arith, sym, ap, ◌∙◌, subst}
+use Rattle.std.proofs.Common.{◌≡◌, [], ◌≤◌, length, arith, refl, sym, ap, ◌∙◌, subst}
 use Rattle.std.specs.Prelude.{All}
 use Rattle.std.proofs.lemmas.List.{length-map}
 use Rattle.pair_closure.specs.Closure.{AreKnown}
@@ -45,7 +45,7 @@ new-requires-clause-whole c =
       nodes = c.in_ok-nodes.field-0.nodes;
       pairs = c.in_ok-nodes.field-0.pairs;
       goals = c.in_ok-goals.goals.items;
-      hypotheses = c.new-nothing.result.items;
+      hypotheses = [];
       hints = c.in_ok-rows.rows.items;
       instances = c.in_ok-instances.instances.items;
     } in
@@ -57,7 +57,7 @@ new-requires-clause-whole c =
     ∙ c.in_ok-starts.ensures) c.in_ok-nodes.ensures.closed c.nodes-2.ensures (c.as_slice-2.ensures
     ∙ ap (λ (h : HintList). h.rewrites) c.hints.ensures.value) c.in_ok-rows.ensures
     c.as_slice-3.ensures.value c.in_ok-instances.ensures.exactly c.in_ok-instances.ensures.order
-    c.goals.ensures.value c.in_ok-goals.ensures c.new-nothing.ensures.items)
+    c.goals.ensures.value c.in_ok-goals.ensures refl)
 
 pub returns-clause-universe : goal.returns-clause-universe
 returns-clause-universe c =
@@ -65,7 +65,7 @@ returns-clause-universe c =
       nodes = c.in_ok-nodes.field-0.nodes;
       pairs = c.in_ok-nodes.field-0.pairs;
       goals = c.in_ok-goals.goals.items;
-      hypotheses = c.new-nothing.result.items;
+      hypotheses = [];
       hints = c.in_ok-rows.rows.items;
       instances = c.in_ok-instances.instances.items;
     } in
@@ -77,7 +77,7 @@ returns-clause-universe c =
     ∙ c.in_ok-starts.ensures) c.in_ok-nodes.ensures.closed c.nodes-2.ensures (c.as_slice-2.ensures
     ∙ ap (λ (h : HintList). h.rewrites) c.hints.ensures.value) c.in_ok-rows.ensures
     c.as_slice-3.ensures.value c.in_ok-instances.ensures.exactly c.in_ok-instances.ensures.order
-    c.goals.ensures.value c.in_ok-goals.ensures c.new-nothing.ensures.items)
+    c.goals.ensures.value c.in_ok-goals.ensures refl)
 
 pub rows_of-requires-clause-known : goal.rows_of-requires-clause-known
 rows_of-requires-clause-known c =
