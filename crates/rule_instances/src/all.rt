@@ -192,7 +192,7 @@ fn add_pair(
     ensures { OnOk result (rows.new ≡ rows.old ++ of_pair nodes.now pairs.now 0 (x, y)) }
 {
     let row = pairs.beside(y);
-    add_at_pair(rows, nodes, pairs, x, y, nodes.node(x), nodes.node(y))?;
+    add_at_pair(rows, nodes, pairs, (x, y), nodes.node(x), nodes.node(y))?;
     add_all_past(rows, pairs, row, x, y)
 }
 
