@@ -5,7 +5,7 @@ use crate::ends::{Ends, Found};
 use crate::known::Known;
 use crate::log::Log;
 use crate::scan::{clear, take};
-use crate::writing::write_gathered;
+use crate::writing::{Gathered, write_gathered};
 use facts::{Fact, Slot};
 use rule_universe::{Placed, Universe};
 use saturate::{Keeps, Steps};
@@ -91,15 +91,12 @@ impl<L: Ledger> Keeps<Steps<L>> for Gathering {
     }
 
     fn finish(&mut self, uni: &Universe, changed: &mut Vec<Placed>) -> Result<bool, AllocError> {
-        write_gathered(
-            self.alloc,
-            uni,
-            &self.now,
-            &self.ends,
-            self.void,
-            changed,
-            &mut self.log,
-        )?;
+        let gathered = Gathered {
+            before: &self.now,
+            ends: &self.ends,
+            void: self.void,
+        };
+        write_gathered(self.alloc, uni, &gathered, changed, &mut self.log)?;
         Ok(self.log.known.is_void(uni))
     }
 

@@ -185,26 +185,39 @@ fn write_void(
     come_by(alloc, uni, now, place, found, log)
 }
 
+/// What a round gathered.
+#[derive(Clone, Copy)]
+pub(crate) struct Gathered<'a> {
+    // What was known before the round.
+    pub(crate) before: &'a Known,
+    // By the place of a slot, the conclusions that give the ends of its fact.
+    pub(crate) ends: &'a [Option<Ends>],
+    // The first conclusion VOID.
+    pub(crate) void: Option<Found>,
+}
+
 // Lets what was gathered come to what is known, and lists the slots about which more is known then.
 // A conclusion VOID comes alone.
 pub(crate) fn write_gathered(
     alloc: Global,
     uni: &Universe,
-    now: &Known,
-    ends: &[Option<Ends>],
-    void: Option<Found>,
+    gathered: &Gathered<'_>,
     changed: &mut Vec<Placed>,
     log: &mut Log,
 ) -> Result<(), AllocError>
-    requires gathered { IsGathered uni.now (known_at uni.now now.now) ends.now void }
-    requires count { length ends.now ≡ place_count (length uni.now.nodes) uni.now.pairs }
+    requires gathered { IsGathered uni.now (known_at uni.now gathered.now.before.now)
+        gathered.now.ends.now gathered.now.void }
+    requires count { length gathered.now.ends.now
+        ≡ place_count (length uni.now.nodes) uni.now.pairs }
     requires rows { HasRows uni.now log.old.known }
-    requires same { IsSame (known_at uni.now now.now) (known_at uni.now log.old.known) }
+    requires same { IsSame (known_at uni.now gathered.now.before.now)
+        (known_at uni.now log.old.known) }
     requires room { log.old.first + length log.old.steps.items + 8192 < 2 ^ 64 }
-    ensures { OnOk result (IsRound uni.now now.now log.old log.new changed.new.items) }
+    ensures { OnOk result (IsRound uni.now gathered.now.before.now
+        log.old log.new changed.new.items) }
 {
-    match void {
-        Some(found) => write_void(alloc, uni, now, found, changed, log),
-        None => write(alloc, uni, now, ends, changed, log),
+    match gathered.void {
+        Some(found) => write_void(alloc, uni, gathered.before, found, changed, log),
+        None => write(alloc, uni, gathered.before, gathered.ends, changed, log),
     }
 }
