@@ -8,6 +8,8 @@ use std::alloc::Global;
 /// table alone. What it holds doesn't matter to any call.
 #[derive(Drop)]
 pub struct Area {
+    // What memory is asked of.
+    pub(crate) alloc: Global,
     // The tables of a round. Between boxes the first has no memory.
     pub(crate) tables: Tables,
     // What else rounds need.
@@ -20,6 +22,7 @@ impl Area {
     /// An area that has asked for no memory yet.
     pub fn new(alloc: Global) -> Area {
         Area {
+            alloc,
             tables: Tables {
                 now: Table::bare(alloc),
                 next: Table::bare(alloc),

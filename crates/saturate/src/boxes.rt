@@ -22,13 +22,12 @@ use facts::Fact;
 use fx_model::ExprId;
 use interval::Interval;
 use rule_universe::Universe;
-use std::alloc::{AllocError, Global};
+use std::alloc::AllocError;
 use std::marker::Brand;
 use std::sync::ledger::{Blank, Ledger};
 
 // The best table of a box below another, from the piece that the last cut left of a variable.
 fn settle_child<C: Concludes>(
-    alloc: Global,
     uni: &Universe,
     piece: (ExprId, Interval),
     parent: &Table,
@@ -50,7 +49,7 @@ fn settle_child<C: Concludes>(
 {
     uni.laws();
     C::rules_are_lawful();
-    let mut start = parent.copy(alloc)?;
+    let mut start = parent.copy(area.alloc)?;
     let place = (piece.0).0;
     let changed = improve(&mut start, Fact::Bnd(piece.0, piece.1), place);
     if parent.closed {
@@ -62,7 +61,6 @@ fn settle_child<C: Concludes>(
 
 // The best table of a box.
 fn best_table<C: Concludes>(
-    alloc: Global,
     uni: &Universe,
     piece: Option<(ExprId, Interval)>,
     parent: Option<&Table>,
@@ -81,8 +79,8 @@ fn best_table<C: Concludes>(
         (C.asked steps.old) (C.asked steps.new) }
 {
     match (piece, parent) {
-        (Some(piece), Some(parent)) => settle_child(alloc, uni, piece, parent, height, area, steps),
-        _ => settle_root(alloc, uni, height, area, steps),
+        (Some(piece), Some(parent)) => settle_child(uni, piece, parent, height, area, steps),
+        _ => settle_root(uni, height, area, steps),
     }
 }
 
@@ -92,7 +90,6 @@ fn best_table<C: Concludes>(
 ///
 /// A step is a conclusion that was asked for. The call has no other, and `Steps` asks `conclude`.
 pub fn settle_counted<C: Concludes>(
-    alloc: Global,
     uni: &Universe,
     piece: Option<(ExprId, Interval)>,
     parent: Option<&Table>,
@@ -122,13 +119,12 @@ pub fn settle_counted<C: Concludes>(
 {
     uni.laws();
     boxes_come_to_one_state();
-    let table = best_table(alloc, uni, piece, parent, rounds, area, steps)?;
+    let table = best_table(uni, piece, parent, rounds, area, steps)?;
     Ok(judge(table, uni.goals()))
 }
 
 // The same with a counter of its own.
 fn settle_blank<L: Ledger>(
-    alloc: Global,
     uni: &Universe,
     piece: Option<(ExprId, Interval)>,
     parent: Option<&Table>,
@@ -148,12 +144,11 @@ fn settle_blank<L: Ledger>(
     ensures marked { IfOk result (λ settled. IsMarked (setting_of uni.now) (table_of settled)) }
 {
     let mut steps = Steps::<L>::new(blank);
-    settle_counted(alloc, uni, piece, parent, rounds, area, &mut steps)
+    settle_counted(uni, piece, parent, rounds, area, &mut steps)
 }
 
 /// The same, where nobody counts.
 pub fn settle(
-    alloc: Global,
     uni: &Universe,
     piece: Option<(ExprId, Interval)>,
     parent: Option<&Table>,
@@ -170,5 +165,5 @@ pub fn settle(
     ensures places { IfOk result (λ settled. HasAllPlaces uni.now (table_of settled)) }
     ensures marked { IfOk result (λ settled. IsMarked (setting_of uni.now) (table_of settled)) }
 {
-    settle_blank::<Brand>(alloc, uni, piece, parent, rounds, area, Blank::new(1))
+    settle_blank::<Brand>(uni, piece, parent, rounds, area, Blank::new(1))
 }

@@ -151,7 +151,6 @@ impl<'a, F: Frame> Boxes<'a, F> {
     // What the box at the path comes to.
     fn settled(
         &self,
-        alloc: Global,
         path: &Path,
         last: Option<(ExprId, Interval)>,
         parent: Option<&Entry<F>>,
@@ -168,7 +167,7 @@ impl<'a, F: Frame> Boxes<'a, F> {
         ensures marked { IfOk result (λ r. IsMarked (setting_of F.universe) (table_of r)) }
     {
         let (piece, table) = self.given(path, last, parent);
-        settle(alloc, self.universe, piece, table, self.rounds, area)
+        settle(self.universe, piece, table, self.rounds, area)
     }
 
     // The verdict on the box at the path, which comes to this.
@@ -221,7 +220,7 @@ impl<'a, F: Frame + Send + Sync> Settler for Boxes<'a, F> {
         area: &mut Area,
     ) -> Result<Verdict<Entry<F>>, AllocError> {
         let (last, cut) = self.plan.at(path);
-        let settled = self.settled(alloc, path, last, parent, area)?;
+        let settled = self.settled(path, last, parent, area)?;
         self.verdict(alloc, *path, cut, settled)
     }
 }

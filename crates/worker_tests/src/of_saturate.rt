@@ -96,7 +96,6 @@ fn piece(k: u8, exponent: i32) -> Option<Interval> {
 
 // Settles the two boxes below the one with this table, whose pieces have these numbers of four.
 fn settle_pieces<L: Ledger>(
-    alloc: Global,
     uni: &Universe,
     x: ExprId,
     parent: &Table,
@@ -114,7 +113,7 @@ fn settle_pieces<L: Ledger>(
     for j in 0..2u8 {
         if let Some(part) = piece(first + j, -2) {
             let below = Some((x, part));
-            let _leaf = settle_counted(alloc, uni, below, Some(parent), ROUNDS, area, counted)?;
+            let _leaf = settle_counted(uni, below, Some(parent), ROUNDS, area, counted)?;
         }
     }
     Ok(())
@@ -131,15 +130,15 @@ fn asked_below<L: Ledger>(
     requires { x.0 < length uni.now.nodes }
 {
     let mut area = Area::new(alloc);
-    let top = settle_counted(alloc, uni, None, None, ROUNDS, &mut area, counted)?;
+    let top = settle_counted(uni, None, None, ROUNDS, &mut area, counted)?;
     let root = table_in(top);
     let before = counted.count;
     for k in 0..2u8 {
         if let Some(range) = piece(k, -1) {
             let half = Some((x, range));
-            let upper = settle_counted(alloc, uni, half, Some(&root), ROUNDS, &mut area, counted)?;
+            let upper = settle_counted(uni, half, Some(&root), ROUNDS, &mut area, counted)?;
             let parent = table_in(upper);
-            settle_pieces(alloc, uni, x, &parent, k * 2, &mut area, counted)?;
+            settle_pieces(uni, x, &parent, k * 2, &mut area, counted)?;
         }
     }
     Ok(counted.count.saturating_sub(before))
