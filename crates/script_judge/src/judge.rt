@@ -20,7 +20,7 @@ use crate::bounds::Bounds;
 use crate::counts::{Counts, ScriptPart, counts_after};
 use crate::fault::Fault;
 use crate::formula::Formula;
-use crate::kinds::{form_kind, limit_kind};
+use crate::kinds::{FormTests, form_kind, limit_kind};
 use crate::names::Names;
 use crate::nesting::{Open, open_or_close};
 use crate::numbers::{Notes, has_no_pieces, is_past_lsb, is_past_pieces, notes_on};
@@ -49,6 +49,14 @@ struct SplitTests {
     bad_point: bool,
 }
 
+/// What follows a token: the words and their roles, and whether an arrow is among them.
+#[derive(Clone, Copy)]
+struct Later<'w, 'a> {
+    words: WordList<'w, 'a>,
+    roles: &'w [Due],
+    has_arrow: bool,
+}
+
 /// Whether a split variable without a definition lacks a range.
 fn is_rangeless(defined: bool, lacks_range: bool) -> bool
     ensures { result ≡ (not defined && lacks_range) }
@@ -61,12 +69,10 @@ fn form_refusal<'a>(
     seen: &Seen<'a>,
     leaf: (Due, Word<'a>),
     notes: Notes,
-    arrow_behind: bool,
-    words: WordList<'_, 'a>,
-    roles: &[Due],
+    later: Later<'_, 'a>,
     split: SplitTests,
 ) -> Option<RefusalKind>
-    requires words { length roles.now ≤ length (words_in words) }
+    requires words { length later.roles.now ≤ length (words_in later.words) }
     requires lower { IsWritten seen.now.bounds.lower }
     requires number { IsWritten notes.number }
     ensures { (stands : spec.Seen) → IsSeen seen.now stands
@@ -75,25 +81,31 @@ fn form_refusal<'a>(
         → split.bad_point ≡ is_bad_point stands.splits (nat_lt 0 stands.counts.pieces)
         (option_map written_value notes.number)
         → result ≡ spec.form_refusal (notes_of notes) stands leaf.entry.0
-        (word_of leaf.entry.1) arrow_behind
-        (leaves_of roles.now (words_in words.entry)) }
+        (word_of leaf.entry.1) later.entry.has_arrow
+        (leaves_of later.entry.roles.now (words_in later.entry.words)) }
 {
     let (role, word) = leaf;
-    let wrong_side = is_on_wrong_side(role, word, arrow_behind, words, roles);
+    let Later {
+        words,
+        roles,
+        has_arrow,
+    } = later;
+    let wrong_side = is_on_wrong_side(role, word, has_arrow, words, roles);
     let used = seen.names.is_used(role, word, words, roles);
     let bad_bound = seen.bounds.is_bad(notes.number);
     let defined_split = seen.names.splits_defined(role, word);
     let rangeless = is_rangeless(defined_split, split.lacks_range);
-    form_kind(
+    let no_pieces = has_no_pieces(role, word);
+    form_kind(FormTests {
         wrong_side,
         used,
         bad_bound,
         rangeless,
         defined_split,
-        has_no_pieces(role, word),
-        split.bad_point,
-        notes.past,
-    )
+        no_pieces,
+        bad_point: split.bad_point,
+        past: notes.past,
+    })
 }
 
 /// The limit that is passed with the token.
@@ -243,9 +255,11 @@ impl<'a> Judging<'a> {
                 &self.seen,
                 (role, word),
                 notes,
-                later_arrows > 0,
-                later_words,
-                later_roles,
+                Later {
+                    words: later_words,
+                    roles: later_roles,
+                    has_arrow: later_arrows > 0,
+                },
                 SplitTests {
                     lacks_range,
                     bad_point,

@@ -6,31 +6,43 @@ ghost use Rattle.script_judge.specs.Judge as spec;
 use crate::counts::Counts;
 use crate::refusal::{LimitKind, RefusalKind};
 
+/// What the tests of a token's form say, whatever is counted.
+#[derive(Clone, Copy)]
+pub struct FormTests {
+    /// It is a form of the formula on its wrong side.
+    pub wrong_side: bool,
+    /// It is a definition's name that is defined or was used.
+    pub used: bool,
+    /// It ends bounds out of order, or begins a relative bound that is too low.
+    pub bad_bound: bool,
+    /// It is a split variable without a range.
+    pub rangeless: bool,
+    /// It is a split variable with a definition.
+    pub defined_split: bool,
+    /// It cuts into no pieces.
+    pub no_pieces: bool,
+    /// It is a point that doesn't split.
+    pub bad_point: bool,
+    /// It is a literal past its limits.
+    pub past: bool,
+}
+
 /// The first kind of those that are refused whatever is counted.
-pub fn form_kind(
-    wrong_side: bool,
-    used: bool,
-    bad_bound: bool,
-    rangeless: bool,
-    defined_split: bool,
-    no_pieces: bool,
-    bad_point: bool,
-    past: bool,
-) -> Option<RefusalKind>
-    ensures { result ≡ spec.form_kind wrong_side used bad_bound rangeless defined_split no_pieces
-        bad_point past }
+pub fn form_kind(tests: FormTests) -> Option<RefusalKind>
+    ensures { result ≡ spec.form_kind tests.wrong_side tests.used tests.bad_bound
+        tests.rangeless tests.defined_split tests.no_pieces tests.bad_point tests.past }
 {
-    if wrong_side {
+    if tests.wrong_side {
         Some(RefusalKind::FormulaForm)
-    } else if used {
+    } else if tests.used {
         Some(RefusalKind::NameUsed)
-    } else if bad_bound {
+    } else if tests.bad_bound {
         Some(RefusalKind::BadBound)
-    } else if rangeless {
+    } else if tests.rangeless {
         Some(RefusalKind::SplitRange)
-    } else if defined_split || no_pieces || bad_point {
+    } else if tests.defined_split || tests.no_pieces || tests.bad_point {
         Some(RefusalKind::BadSplit)
-    } else if past {
+    } else if tests.past {
         Some(RefusalKind::LiteralLimit)
     } else {
         None
