@@ -6,6 +6,8 @@ mod answers;
 #[cfg(test)]
 mod boxes;
 #[cfg(test)]
+mod equals;
+#[cfg(test)]
 mod events;
 #[cfg(test)]
 mod of_accounts;

@@ -1,10 +1,12 @@
 //! Events that two workers make, and events that are refused.
 ghost use Rattle.std.specs.Prelude.{length, nat_lt, if◌then◌else◌};
 
-use crate::events::{BOXES, turn};
+use crate::equals::{all_equal, answer_is, equal};
+use crate::events::turns;
 use accounts::EventRefused::NotEnabled;
-use accounts::{Core, Cuts, Event};
+use accounts::{Core, Cuts, Event, EventRefused};
 use fx_edge::Path;
+use std::process::Abort;
 use std::test::Fail;
 
 // Each box is halved, four times at most.
@@ -19,28 +21,40 @@ impl Cuts for Halves {
     }
 }
 
+const LEAVES: &[&[u8]] = &[
+    &[0, 0],
+    &[1, 1],
+    &[0, 1, 0],
+    &[1, 0, 1],
+    &[0, 1, 1, 0],
+    &[1, 0, 0, 0],
+    &[0, 1, 1, 1],
+    &[1, 0, 0, 1],
+];
+
+fn are_paths(rt: &impl Abort, found: &[Path], wanted: &[&[u8]]) {
+    equal(rt, 0, found.len(), 8);
+    for (path, leaf) in found.iter().zip(wanted) {
+        all_equal(rt, 0, path.numbers(), *leaf);
+    }
+}
+
 #[test]
 fn two_workers_settle_the_leaves(rt: HostRuntime) -> Result<(), Fail> {
     let plan = Halves;
     let mut core = Core::start(rt.alloc(), &plan, 2)?;
-    for k in 0..15u8 {
-        turn(&mut core, k, BOXES[usize::from(k)])?;
-    }
-    let leaves: [&[u8]; 8] = [
-        &[0, 0],
-        &[1, 1],
-        &[0, 1, 0],
-        &[1, 0, 1],
-        &[0, 1, 1, 0],
-        &[1, 0, 0, 0],
-        &[0, 1, 1, 1],
-        &[1, 0, 0, 1],
-    ];
-    assert_eq!(rt; core.settled().len(), 8);
-    for (path, leaf) in core.settled().iter().zip(leaves) {
-        assert_eq!(rt; path.numbers(), leaf);
-    }
+    turns(&mut core)?;
+    are_paths(&rt, core.settled(), LEAVES);
     Ok(())
+}
+
+type Answer = Result<(), EventRefused>;
+
+// The events in this order have these answers.
+fn steps_are(rt: &impl Abort, core: &mut Core<'_, Halves>, rows: &[(Event, Answer)]) {
+    for (event, answer) in rows {
+        answer_is(rt, *event, core.step(*event), *answer);
+    }
 }
 
 #[test]
@@ -108,9 +122,7 @@ fn events_in_turn(rt: HostRuntime) -> Result<(), Fail> {
         (Event::Pop { worker: 1 }, Ok(())),
         (Event::Settle { worker: 1 }, Ok(())),
     ];
-    for (event, answer) in rows {
-        assert_eq!(rt; core.step(event), answer, "{event:?}");
-    }
-    assert_eq!(rt; core.settled(), [first].as_slice());
+    steps_are(&rt, &mut core, &rows);
+    all_equal(&rt, 0, core.settled(), &[first]);
     Ok(())
 }

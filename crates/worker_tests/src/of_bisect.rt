@@ -6,12 +6,13 @@ ghost use Rattle.bisect.specs.Answers.{IsAnswer};
 ghost use Rattle.bisect.specs.Examples.{two_ways_open};
 ghost use Rattle.bisect.specs.Trees.{tree_of};
 
-use crate::tree::{NONE, World, X, two_ways, written};
+use crate::answers::{Told, told};
+use crate::equals::equal;
+use crate::tree::{NONE, World, X, no_cuts, one_cut, two_ways, unit_plan};
 use bisect::{Outcome, run_alone};
 use box_tree::Plan;
 use fx_edge::{Items, Path};
-use script_claims::Claim;
-use script_hints::hint::{Cutting, HintList, Split};
+use script_hints::hint::Split;
 use std::alloc::{AllocError, Global};
 use std::marker::Brand;
 use std::process::Abort;
@@ -31,15 +32,10 @@ fn cuts(alloc: Global, pieces: u8) -> Result<Items<Split>, AllocError>
     ensures few { IfOk result (λ c. length c ≤ 4) }
     ensures pieces { IfOk result HaveFewPieces }
 {
-    let mut cuts = Vec::new(alloc);
     if pieces == 0 {
-        return Ok(Items::from_vec(cuts));
+        return Ok(no_cuts(alloc));
     }
-    cuts.push(Split {
-        var: X,
-        cut: Cutting::Pieces(pieces),
-    })?;
-    Ok(Items::from_vec(cuts))
+    one_cut(alloc, X, pieces)
 }
 
 // The answer where x in [0,1] is cut into so many pieces, if into any, and then halved so often at
@@ -50,35 +46,28 @@ fn answer(
     pieces: u8,
     depth: u8,
     boxes: u32,
-) -> Result<Outcome, AllocError>
+) -> Result<Told, AllocError>
     requires pieces { pieces ≤ 64 }
     requires depth { depth ≤ 32 }
 {
-    let hints = HintList {
-        rewrites: Items::from_vec(Vec::new(alloc)),
-        likes: Items::from_vec(Vec::new(alloc)),
-        cuts: cuts(alloc, pieces)?,
-        halves: Items::from_vec([X].to_vec(alloc)?),
-        order: Items::from_vec([X].to_vec(alloc)?),
-    };
-    let unit = Claim::Bounded(X, Some(written(rt, "0")), Some(written(rt, "1")));
-    let plan = Plan::new(alloc, &[unit], &hints, depth)?;
-    answer_in::<Brand>(alloc, &plan, boxes)
+    let plan = unit_plan(rt, alloc, cuts(alloc, pieces)?, depth)?;
+    let found = answer_in::<Brand>(alloc, &plan, boxes)?;
+    Ok(told(&found))
 }
 
-// The number of boxes, that of leaves, and the first open leaf; no box at the limit.
-fn told(found: &Outcome) -> (u32, usize, Option<Path>) {
-    match found {
-        Outcome::Leaves { boxes, leaves } => (*boxes, leaves.as_slice().len(), None),
-        Outcome::Unproved { boxes, leaf } => (*boxes, 0, Some(leaf.path)),
-        Outcome::BoxLimit => (0, 0, None),
+// Of each row, so many pieces, so many halvings and boxes at most, this is told.
+fn answers_are(rt: &impl Abort, alloc: Global, rows: &[(u8, u8, u32, Told)]) -> Result<(), Fail> {
+    for (pieces, depth, boxes, wanted) in rows {
+        let found = answer(rt, alloc, (*pieces).min(64), (*depth).min(32), *boxes)?;
+        equal(rt, u64::from(*boxes), found, *wanted);
     }
+    Ok(())
 }
 
 #[test]
 fn each_limit_of_boxes_has_its_answer(rt: HostRuntime) -> Result<(), Fail> {
     let root = Path::root();
-    let rows: [(u8, u8, u32, (u32, usize, Option<Path>)); 8] = [
+    let rows: [(u8, u8, u32, Told); 8] = [
         (0, 16, 15, (15, 8, None)),
         (0, 3, 4096, (11, 0, Some(root.child(0).child(1).child(1)))),
         (0, 0, 1, (1, 0, Some(root))),
@@ -89,9 +78,5 @@ fn each_limit_of_boxes_has_its_answer(rt: HostRuntime) -> Result<(), Fail> {
         (0, 3, 3, (0, 0, None)),
         (0, 16, 0, (0, 0, None)),
     ];
-    for (pieces, depth, boxes, wanted) in rows {
-        let found = answer(&rt, rt.alloc(), pieces.min(64), depth.min(32), boxes)?;
-        assert_eq!(rt; told(&found), wanted, "{pieces} {depth} {boxes}");
-    }
-    Ok(())
+    answers_are(&rt, rt.alloc(), &rows)
 }

@@ -1,14 +1,15 @@
 //! Boxes that were worked out by a plain program.
-ghost use Rattle.std.specs.Prelude.{◌≡◌, ◌≤◌, [], length, IfOk};
+ghost use Rattle.std.specs.Prelude.{◌≤◌, length, IfOk};
 ghost use Rattle.script_hints.specs.Few.{HaveFewPieces};
 
-use crate::tree::{X, written};
+use crate::equals::text_is;
+use crate::tree::{X, no_cuts, one_cut, plan_of, written};
 use box_tree::{Cut, Plan};
 use dyadic::Dyadic;
 use fx_edge::{Items, Path};
 use fx_model::ExprId;
 use script_claims::Claim;
-use script_hints::hint::{Cutting, HintList, Split};
+use script_hints::hint::{Cutting, Split};
 use std::alloc::{AllocError, Global};
 use std::process::Abort;
 use std::test::Fail;
@@ -17,23 +18,33 @@ const Y: ExprId = ExprId(1);
 
 const Z: ExprId = ExprId(2);
 
-// The piece and the cut of a box, as a line.
-fn shown(alloc: Global, plan: &Plan, path: &Path) -> Result<String, AllocError> {
-    let mut line = String::new(alloc);
-    if let Some((x, range)) = plan.piece(path) {
-        let lo = range.lo();
-        let hi = range.hi();
-        let part = format!(in alloc; "{x:?}[{lo},{hi}] ")?;
-        line.push_str(part.as_str())?;
+// The piece of a box, and a space; or nothing.
+fn piece_text(alloc: Global, plan: &Plan, path: &Path) -> Result<String, AllocError> {
+    match plan.piece(path) {
+        Some((x, range)) => {
+            let lo = range.lo();
+            let hi = range.hi();
+            format!(in alloc; "{x:?}[{lo},{hi}] ")
+        }
+        None => Ok(String::new(alloc)),
     }
-    let cut = match plan.cut(path) {
+}
+
+fn cut_text(alloc: Global, cut: &Cut) -> Result<String, AllocError> {
+    match cut {
         Cut::Forced(x, points) => {
             let count = points.len();
-            format!(in alloc; "forced {x:?} {count}")?
+            format!(in alloc; "forced {x:?} {count}")
         }
-        Cut::Half(x, m) => format!(in alloc; "half {x:?} {m}")?,
-        Cut::Bottom => String::from_str(alloc, "bottom")?,
-    };
+        Cut::Half(x, m) => format!(in alloc; "half {x:?} {m}"),
+        Cut::Bottom => String::from_str(alloc, "bottom"),
+    }
+}
+
+// The piece and the cut of a box, as a line.
+fn shown(alloc: Global, plan: &Plan, path: &Path) -> Result<String, AllocError> {
+    let mut line = piece_text(alloc, plan, path)?;
+    let cut = cut_text(alloc, &plan.cut(path))?;
     line.push_str(cut.as_str())?;
     Ok(line)
 }
@@ -51,26 +62,6 @@ fn path_of(numbers: &[u8]) -> Path {
 
 fn number(rt: &impl Abort, n: i64) -> Dyadic {
     Dyadic::new(n, 0).expect(rt, "a number of the grid")
-}
-
-fn no_cuts(alloc: Global) -> Items<Split>
-    ensures { result ≡ [] }
-{
-    Items::from_vec(Vec::new(alloc))
-}
-
-// One cut, into so many pieces.
-fn one_cut(alloc: Global, var: ExprId, pieces: u8) -> Result<Items<Split>, AllocError>
-    requires { pieces ≤ 64 }
-    ensures few { IfOk result (λ c. length c ≤ 4) }
-    ensures pieces { IfOk result HaveFewPieces }
-{
-    let mut cuts = Vec::new(alloc);
-    cuts.push(Split {
-        var,
-        cut: Cutting::Pieces(pieces),
-    })?;
-    Ok(Items::from_vec(cuts))
 }
 
 // Cuts of x at 1 and 3, into one piece, and into two.
@@ -107,13 +98,6 @@ fn plan(
     requires pieces { HaveFewPieces cuts }
     requires depth { depth ≤ 32 }
 {
-    let hints = HintList {
-        rewrites: Items::from_vec(Vec::new(alloc)),
-        likes: Items::from_vec(Vec::new(alloc)),
-        cuts,
-        halves: Items::from_vec(halves.to_vec(alloc)?),
-        order: Items::from_vec([X, Y, Z].to_vec(alloc)?),
-    };
     let zero = Some(written(rt, "0"));
     let one = Some(written(rt, "1"));
     let claims = [
@@ -123,7 +107,7 @@ fn plan(
         Claim::Bounded(Y, zero, one),
         Claim::Bounded(Z, zero, Some(written(rt, "1b-512"))),
     ];
-    Plan::new(alloc, &claims, &hints, depth)
+    plan_of(alloc, &claims, cuts, halves, &[X, Y, Z], depth)
 }
 
 // The plan of this number.
@@ -146,30 +130,37 @@ fn box_line(rt: &impl Abort, alloc: Global, kind: u8, path: &[u8]) -> Result<Str
     shown(alloc, &plan, &path_of(path))
 }
 
+// The number of a plan, a path, and the line of its box.
+const ROWS: &[(u8, &[u8], &str)] = &[
+    (0, &[], "bottom"),
+    (1, &[], "half ExprId(1) 1b-1"),
+    (1, &[0], "ExprId(1)[0,1b-1] half ExprId(1) 1b-2"),
+    (1, &[0, 1, 1], "ExprId(1)[3b-3,1b-1] bottom"),
+    (2, &[], "half ExprId(0) 1b1"),
+    (2, &[1], "ExprId(0)[1b1,1b2] half ExprId(1) 1b-1"),
+    (2, &[1, 0], "ExprId(1)[0,1b-1] half ExprId(0) 3"),
+    (2, &[1, 0, 1, 1], "ExprId(1)[1b-2,1b-1] bottom"),
+    (3, &[], "forced ExprId(1) 3"),
+    (3, &[2], "ExprId(1)[1b-1,3b-2] bottom"),
+    (4, &[], "forced ExprId(0) 2"),
+    (4, &[1], "ExprId(0)[1,3] forced ExprId(0) 1"),
+    (4, &[1, 1], "ExprId(0)[1b1,3] half ExprId(0) 5b-1"),
+    (4, &[1, 1, 0, 1], "ExprId(0)[9b-2,5b-1] bottom"),
+    (5, &[], "half ExprId(1) 1b-1"),
+    (5, &[1], "ExprId(1)[1b-1,1] half ExprId(1) 3b-2"),
+    (5, &[1, 0], "ExprId(1)[1b-1,3b-2] bottom"),
+];
+
+fn box_is(rt: &impl Abort, alloc: Global, kind: u8, path: &[u8], wanted: &str) -> Result<(), Fail> {
+    let line = box_line(rt, alloc, kind, path)?;
+    text_is(rt, path, line.as_str(), wanted);
+    Ok(())
+}
+
 #[test]
 fn each_path_has_its_piece_and_its_cut(rt: HostRuntime) -> Result<(), Fail> {
-    let rows: [(u8, &[u8], &str); 17] = [
-        (0, &[], "bottom"),
-        (1, &[], "half ExprId(1) 1b-1"),
-        (1, &[0], "ExprId(1)[0,1b-1] half ExprId(1) 1b-2"),
-        (1, &[0, 1, 1], "ExprId(1)[3b-3,1b-1] bottom"),
-        (2, &[], "half ExprId(0) 1b1"),
-        (2, &[1], "ExprId(0)[1b1,1b2] half ExprId(1) 1b-1"),
-        (2, &[1, 0], "ExprId(1)[0,1b-1] half ExprId(0) 3"),
-        (2, &[1, 0, 1, 1], "ExprId(1)[1b-2,1b-1] bottom"),
-        (3, &[], "forced ExprId(1) 3"),
-        (3, &[2], "ExprId(1)[1b-1,3b-2] bottom"),
-        (4, &[], "forced ExprId(0) 2"),
-        (4, &[1], "ExprId(0)[1,3] forced ExprId(0) 1"),
-        (4, &[1, 1], "ExprId(0)[1b1,3] half ExprId(0) 5b-1"),
-        (4, &[1, 1, 0, 1], "ExprId(0)[9b-2,5b-1] bottom"),
-        (5, &[], "half ExprId(1) 1b-1"),
-        (5, &[1], "ExprId(1)[1b-1,1] half ExprId(1) 3b-2"),
-        (5, &[1, 0], "ExprId(1)[1b-1,3b-2] bottom"),
-    ];
-    for (kind, path, wanted) in rows {
-        let line = box_line(&rt, rt.alloc(), kind, path)?;
-        assert_eq!(rt; line.as_str(), wanted, "{path:?}");
+    for (kind, path, wanted) in ROWS {
+        box_is(&rt, rt.alloc(), *kind, *path, wanted)?;
     }
     Ok(())
 }

@@ -1,15 +1,11 @@
 //! A tree of 15 boxes, which is open on two ways down, by several workers.
-ghost use Rattle.std.specs.Prelude.{◌≡◌, ◌≤◌, ℕ, List};
-ghost use Rattle.box_tree.specs.Plans.{cut_at};
+ghost use Rattle.std.specs.Prelude.{◌≤◌};
 
-use crate::tree::{NONE, World, halves, is_front, two_ways};
-use bisect::Outcome;
-use box_tree::Plan;
-use box_workers::run;
+use crate::answers::{Told, answer};
+use crate::equals::equal;
+use crate::tree::{NONE, is_front};
 use fx_edge::{Gate, OpenGate, Path};
-use proof_options::Options;
-use std::alloc::{AllocError, Global};
-use std::marker::Brand;
+use std::alloc::Global;
 use std::process::Abort;
 use std::sync::Wait;
 use std::sync::atomic::{AtomicU64, Ordering};
@@ -45,116 +41,58 @@ impl Gate for HoldsALeaf {
     fn leave(&self, _path: &Path) {}
 }
 
-// What the answer tells: the number of boxes, that of leaves, and the first open leaf; no box at
-// the limit. And how often a box was settled.
-#[derive(Clone, Copy, PartialEq, Eq, Debug)]
-struct Found {
-    boxes: u32,
-    leaves: usize,
-    first: Option<Path>,
+// The whole tree is told, for which the settler was called so often.
+fn whole_is_told<G: Gate>(
+    rt: &(impl Threads + Wait + Sync + Abort),
+    alloc: Global,
+    gate: &G,
+    refused: u64,
+    workers: u8,
     calls: u64,
-}
-
-fn summary(found: &Outcome, calls: u64) -> Found {
-    match found {
-        Outcome::Leaves { boxes, leaves } => Found {
-            boxes: *boxes,
-            leaves: leaves.as_slice().len(),
-            first: None,
-            calls,
-        },
-        Outcome::Unproved { boxes, leaf } => Found {
-            boxes: *boxes,
-            leaves: 0,
-            first: Some(leaf.path),
-            calls,
-        },
-        Outcome::BoxLimit => Found {
-            boxes: 0,
-            leaves: 0,
-            first: None,
-            calls,
-        },
-    }
-}
-
-fn answer_in<W: World, G: Gate, R: Threads + Wait + Sync>(
-    rt: &R,
-    alloc: Global,
-    gate: &G,
-    plan: &Plan,
-    refused: u64,
-    workers: u8,
-    boxes: u32,
-) -> Result<Found, AllocError>
-    requires plan { (p : List ℕ) → cut_at plan.now p ≡ W.cut_at p }
-    requires workers { (1 ≤ workers) × (workers ≤ 16) }
-    requires boxes { (1 ≤ boxes) × (boxes ≤ 8192) }
+) -> Result<(), Fail>
+    requires { (1 ≤ workers) × (workers ≤ 16) }
 {
-    let settler = two_ways::<W>(plan, refused);
-    let options = Options {
-        rounds: 8,
-        depth: 16,
-        boxes,
-        workers,
-    };
-    let found = run(rt, alloc, &settler, gate, plan, options)?;
-    Ok(summary(&found, settler.calls.load(Ordering::SeqCst)))
+    let (told, _, called) = answer(rt, alloc, gate, 16, refused, workers, 4096)?;
+    equal(rt, u64::from(workers), told, (15, 8, None));
+    equal(rt, refused, called, calls);
+    Ok(())
 }
 
-// The answer under the plan that halves so often at most.
-fn answer<G: Gate, R: Threads + Wait + Sync + Abort>(
-    rt: &R,
+// This is told where x is halved so often at most, of so many boxes at most.
+fn is_told(
+    rt: &(impl Threads + Wait + Sync + Abort),
     alloc: Global,
-    gate: &G,
     depth: u8,
-    refused: u64,
     workers: u8,
     boxes: u32,
-) -> Result<Found, AllocError>
+    wanted: Told,
+) -> Result<(), Fail>
     requires depth { depth ≤ 32 }
     requires workers { (1 ≤ workers) × (workers ≤ 16) }
     requires boxes { (1 ≤ boxes) × (boxes ≤ 8192) }
 {
-    let plan = halves(rt, alloc, depth)?;
-    answer_in::<Brand, G, R>(rt, alloc, gate, &plan, refused, workers, boxes)
+    let (told, _, _) = answer(rt, alloc, &OpenGate, depth, NONE, workers, boxes)?;
+    equal(rt, u64::from(boxes), told, wanted);
+    Ok(())
 }
 
 #[test]
 fn one_answer_for_any_number_of_workers(rt: HostRuntime) -> Result<(), Fail> {
-    let whole = Found {
-        boxes: 15,
-        leaves: 8,
-        first: None,
-        calls: 15,
-    };
-    for workers in [1u8, 2, 16] {
-        let found = answer(&rt, rt.alloc(), &OpenGate, 16, NONE, workers, 4096)?;
-        assert_eq!(rt; found, whole, "{workers} workers");
-    }
+    whole_is_told(&rt, rt.alloc(), &OpenGate, NONE, 1, 15)?;
+    whole_is_told(&rt, rt.alloc(), &OpenGate, NONE, 2, 15)?;
+    whole_is_told(&rt, rt.alloc(), &OpenGate, NONE, 16, 15)?;
     // Exactly as many boxes as there may be, and one too many.
-    let few = answer(&rt, rt.alloc(), &OpenGate, 16, NONE, 4, 15)?;
-    assert_eq!(rt; (few.boxes, few.leaves), (15, 8));
-    let over = answer(&rt, rt.alloc(), &OpenGate, 16, NONE, 4, 14)?;
-    assert_eq!(rt; (over.boxes, over.leaves), (0, 0));
+    is_told(&rt, rt.alloc(), 16, 4, 15, (15, 8, None))?;
+    is_told(&rt, rt.alloc(), 16, 4, 14, (0, 0, None))?;
     // The first open leaf is that of the tree, whoever found it.
-    let open = answer(&rt, rt.alloc(), &OpenGate, 3, NONE, 3, 4096)?;
     let first = Path::root().child(0).child(1).child(1);
-    assert_eq!(rt; (open.boxes, open.first), (11, Some(first)));
-    Ok(())
+    is_told(&rt, rt.alloc(), 3, 3, 4096, (11, 0, Some(first)))
 }
 
 #[test]
 fn a_refused_call_changes_no_leaf(rt: HostRuntime) -> Result<(), Fail> {
     for refused in 0..15u64 {
-        let found = answer(&rt, rt.alloc(), &OpenGate, 16, refused, 4, 4096)?;
-        let whole = Found {
-            boxes: 15,
-            leaves: 8,
-            first: None,
-            calls: 16,
-        };
-        assert_eq!(rt; found, whole, "call {refused}");
+        whole_is_told(&rt, rt.alloc(), &OpenGate, refused, 4, 16)?;
     }
     Ok(())
 }
@@ -166,15 +104,8 @@ fn two_workers_share_boxes(rt: HostRuntime) -> Result<(), Fail> {
         leaves: AtomicU64::new(0),
         met: AtomicU64::new(0),
     };
-    let found = answer(&rt, rt.alloc(), &gate, 16, NONE, 2, 4096)?;
-    let whole = Found {
-        boxes: 15,
-        leaves: 8,
-        first: None,
-        calls: 15,
-    };
-    assert_eq!(rt; found, whole);
-    assert_eq!(rt; gate.entered.load(Ordering::SeqCst), 15);
-    assert_eq!(rt; gate.met.load(Ordering::SeqCst), 1);
+    whole_is_told(&rt, rt.alloc(), &gate, NONE, 2, 15)?;
+    equal(&rt, 2, gate.entered.load(Ordering::SeqCst), 15);
+    equal(&rt, 2, gate.met.load(Ordering::SeqCst), 1);
     Ok(())
 }

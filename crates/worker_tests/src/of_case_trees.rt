@@ -3,6 +3,7 @@
 ghost use Rattle.std.specs.Prelude.{◌≤◌, IfOk, length};
 ghost use Rattle.case_trees.specs.Gathered.{IsWithin};
 
+use crate::equals::equal;
 use bisect::{Leaf, OpenLeaf, Outcome, State};
 use case_trees::Gathered;
 use fx_edge::{Items, Path};
@@ -70,8 +71,34 @@ fn together(alloc: Global, limit: u32, trees: &[Boxes]) -> Result<Wanted, AllocE
     Ok(told(gathered.finish()))
 }
 
+fn trees_are(
+    rt: &impl Abort,
+    alloc: Global,
+    limit: u32,
+    trees: &[Boxes],
+    wanted: Wanted,
+) -> Result<(), Fail>
+    requires { length trees.now ≤ 64 }
+{
+    let found = together(alloc, limit, trees)?;
+    equal(rt, u64::from(limit), found, wanted);
+    Ok(())
+}
+
+// A limit of boxes, two trees, and what they come to.
+fn outcomes_are(
+    rt: &impl Abort,
+    alloc: Global,
+    rows: &[(u32, [Boxes; 2], Wanted)],
+) -> Result<(), Fail> {
+    for (limit, trees, wanted) in rows {
+        trees_are(rt, alloc, *limit, trees, *wanted)?;
+    }
+    Ok(())
+}
+
 #[test]
-fn several_trees_have_one_outcome(rt: HostRuntime) {
+fn several_trees_have_one_outcome(rt: HostRuntime) -> Result<(), Fail> {
     let rows: [(u32, [Boxes; 2], Wanted); 8] = [
         (4, [(3, None), (1, None)], Wanted::Proved(4, 2)),
         (3, [(3, None), (1, None)], Wanted::Limit),
@@ -82,8 +109,5 @@ fn several_trees_have_one_outcome(rt: HostRuntime) {
         (1, [(1, Some(0)), (1, Some(0))], Wanted::Limit),
         (2, [(1, Some(5)), (1, None)], Wanted::Open(2, 0, 5)),
     ];
-    for (limit, trees, wanted) in rows {
-        let found = together(rt.alloc(), limit, &trees);
-        assert!(rt; found == Ok(wanted), "{trees:?} within {limit}");
-    }
+    outcomes_are(&rt, rt.alloc(), &rows)
 }

@@ -6,6 +6,7 @@ ghost use Rattle.saturate.specs.Universes.{setting_of, HasAllPlaces};
 ghost use Rattle.saturate.specs.Closed.{IsMarked};
 ghost use Rattle.saturate.specs.Boxes.{table_of};
 
+use crate::equals::holds;
 use dyadic::{Dyadic, End};
 use expr_dag::Dag;
 use facts::{Fact, HintRow, Instance};
@@ -191,6 +192,6 @@ fn asked(alloc: Global, text: &[u8]) -> Option<u32> {
 fn sweeps_ask_for_less_than_a_third_of_what_rounds_ask_for(rt: HostRuntime) {
     let by_rounds = asked(rt.alloc(), BY_ROUNDS).expect(&rt, "a universe and memory");
     let by_sweeps = asked(rt.alloc(), BY_SWEEPS).expect(&rt, "a universe and memory");
-    assert!(rt; 0 < by_sweeps, "no conclusion");
-    assert!(rt; by_sweeps < by_rounds / 3, "{by_sweeps} of {by_rounds}");
+    holds(&rt, u64::from(by_sweeps), 0 < by_sweeps);
+    holds(&rt, u64::from(by_sweeps), by_sweeps < by_rounds / 3);
 }

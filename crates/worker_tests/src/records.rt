@@ -3,6 +3,7 @@ ghost use Rattle.std.specs.Prelude.{◌≡◌, ◌≤◌, ℕ, List, Some};
 ghost use Rattle.box_tree.specs.Plans.{cut_at};
 
 use crate::boxes::number_of;
+use crate::equals::equal;
 use crate::tree::{NONE, Spot, World, halves, two_ways};
 use bisect::Posted;
 use box_deques::{Naming, Task, hands, pool};
@@ -88,18 +89,24 @@ fn work_once<R: Wait + Abort>(rt: &R, alloc: Global, capacity: u32) -> Result<Di
     work_in::<Brand, R>(rt, alloc, &plan, capacity)
 }
 
+fn work_is<R: Wait + Abort>(rt: &R, alloc: Global, capacity: u32, wanted: Did) -> Result<(), Fail>
+    requires { (1 ≤ capacity) × (capacity ≤ 8192) }
+{
+    let done = work_once(rt, alloc, capacity)?;
+    equal(rt, u64::from(capacity), done, wanted);
+    Ok(())
+}
+
 #[test]
 fn one_worker_has_all_boxes_in_its_record(rt: HostRuntime) -> Result<(), Fail> {
-    assert_eq!(rt; work_once(&rt, rt.alloc(), 4096)?, (8, 7, None));
+    work_is(&rt, rt.alloc(), 4096, (8, 7, None))?;
     // The root and 14 more are all that the lane is pushed.
-    assert_eq!(rt; work_once(&rt, rt.alloc(), 15)?, (8, 7, None));
-    Ok(())
+    work_is(&rt, rt.alloc(), 15, (8, 7, None))
 }
 
 #[test]
 fn a_full_lane_holds_the_box(rt: HostRuntime) -> Result<(), Fail> {
     // The lane is pushed the root, its two halves, and the first half of the next box.
     let held = (0b10, HeldWhy::LaneFull, true, 1);
-    assert_eq!(rt; work_once(&rt, rt.alloc(), 4)?, (0, 1, Some(held)));
-    Ok(())
+    work_is(&rt, rt.alloc(), 4, (0, 1, Some(held)))
 }

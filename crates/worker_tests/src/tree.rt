@@ -1,5 +1,8 @@
 //! A tree of 15 boxes, which is open on two ways down.
-ghost use Rattle.std.specs.Prelude.{◌≡◌, ◌≤◌, ℕ, List, Some};
+ghost use Rattle.std.specs.Prelude.{◌≡◌, ◌≤◌, ℕ, List, [], length, Some, IfOk};
+ghost use Rattle.std.specs.List.{AllByRecursion};
+ghost use Rattle.script_claims.specs.Facts.{HasNormalBounds};
+ghost use Rattle.script_hints.specs.Few.{HaveFewPieces};
 ghost use Rattle.literal_order.specs.Values.{IsWritten};
 ghost use Rattle.box_tree.specs.declared.cut.Cut.{Cut};
 ghost use Rattle.box_tree.specs.declared.cut.Cut.TheVariants.{Bottom};
@@ -14,7 +17,7 @@ use fx_model::ExprId;
 use literal::read;
 use literal_order::Written;
 use script_claims::Claim;
-use script_hints::hint::HintList;
+use script_hints::hint::{Cutting, HintList, Split};
 use std::alloc::{AllocError, Global};
 use std::marker::{Brand, PhantomData};
 use std::process::Abort;
@@ -131,17 +134,70 @@ pub fn written(rt: &impl Abort, text: &str) -> Written
     }
 }
 
-/// The plan where x in [0,1] is halved so often at most.
-pub fn halves(rt: &impl Abort, alloc: Global, depth: u8) -> Result<Plan, AllocError>
-    requires { depth ≤ 32 }
+/// No cut.
+pub fn no_cuts(alloc: Global) -> Items<Split>
+    ensures { result ≡ [] }
+{
+    Items::from_vec(Vec::new(alloc))
+}
+
+/// One cut, into so many pieces.
+pub fn one_cut(alloc: Global, var: ExprId, pieces: u8) -> Result<Items<Split>, AllocError>
+    requires { pieces ≤ 64 }
+    ensures few { IfOk result (λ c. length c ≤ 4) }
+    ensures pieces { IfOk result HaveFewPieces }
+{
+    let mut cuts = Vec::new(alloc);
+    cuts.push(Split {
+        var,
+        cut: Cutting::Pieces(pieces),
+    })?;
+    Ok(Items::from_vec(cuts))
+}
+
+/// The plan of these claims, cuts and halvings, with the variables in this order.
+pub fn plan_of(
+    alloc: Global,
+    claims: &[Claim],
+    cuts: Items<Split>,
+    halves: &[ExprId],
+    order: &[ExprId],
+    depth: u8,
+) -> Result<Plan, AllocError>
+    requires normal { AllByRecursion HasNormalBounds claims.now }
+    requires few { length cuts ≤ 4 }
+    requires pieces { HaveFewPieces cuts }
+    requires order { length order.now ≤ 8 }
+    requires depth { depth ≤ 32 }
 {
     let hints = HintList {
         rewrites: Items::from_vec(Vec::new(alloc)),
         likes: Items::from_vec(Vec::new(alloc)),
-        cuts: Items::from_vec(Vec::new(alloc)),
-        halves: Items::from_vec([X].to_vec(alloc)?),
-        order: Items::from_vec([X].to_vec(alloc)?),
+        cuts,
+        halves: Items::from_vec(halves.to_vec(alloc)?),
+        order: Items::from_vec(order.to_vec(alloc)?),
     };
+    Plan::new(alloc, claims, &hints, depth)
+}
+
+/// The plan where x in [0,1] is cut so, and then halved so often at most.
+pub fn unit_plan(
+    rt: &impl Abort,
+    alloc: Global,
+    cuts: Items<Split>,
+    depth: u8,
+) -> Result<Plan, AllocError>
+    requires few { length cuts ≤ 4 }
+    requires pieces { HaveFewPieces cuts }
+    requires depth { depth ≤ 32 }
+{
     let unit = Claim::Bounded(X, Some(written(rt, "0")), Some(written(rt, "1")));
-    Plan::new(alloc, &[unit], &hints, depth)
+    plan_of(alloc, &[unit], cuts, &[X], &[X], depth)
+}
+
+/// The plan where it is halved so often at most.
+pub fn halves(rt: &impl Abort, alloc: Global, depth: u8) -> Result<Plan, AllocError>
+    requires { depth ≤ 32 }
+{
+    unit_plan(rt, alloc, no_cuts(alloc), depth)
 }
