@@ -2,6 +2,10 @@
 #![tactic(auto)]
 
 #[cfg(test)]
+mod equals;
+#[cfg(test)]
+mod folders;
+#[cfg(test)]
 mod of_at_command;
 #[cfg(test)]
 mod of_batch_command;

@@ -1,9 +1,13 @@
 //! Runs, with what they print. The lines are those of an independent program.
+use crate::equals::{bytes_are, equal};
+use crate::folders::folder_of;
 use at_command::run_at;
 use command_line::AtRequest;
 use command_runs::Status;
-use fx_edge::{MemFolder, MemSink};
-use std::alloc::{AllocError, Global};
+use fx_edge::MemSink;
+use std::alloc::Global;
+use std::process::Abort;
+use std::test::Fail;
 
 const NAMES: AtRequest<'static> = AtRequest {
     script: "s",
@@ -13,7 +17,7 @@ const NAMES: AtRequest<'static> = AtRequest {
 // A script and a point, with their status and lines.
 type Row = (&'static str, &'static str, Status, &'static str);
 
-const ROWS: [Row; 6] = [
+const ROWS: &[Row] = &[
     (
         "@rnd = fixed<-4,dn>; y = rnd(x); { x in [0,1] -> y - x in ? }",
         "x = 1 / 3;",
@@ -47,35 +51,56 @@ const ROWS: [Row; 6] = [
     ),
 ];
 
-// Whether the row's status and lines come over a folder, of which these calls fail, and a sink that
-// move few bytes in a call.
-fn comes(alloc: Global, row: Row, failing: &[u64]) -> Result<bool, AllocError> {
-    let mut files = Vec::new(alloc);
-    files.push((
-        String::from_str(alloc, "s")?,
-        row.0.as_bytes().to_vec(alloc)?,
-    ))?;
-    files.push((
-        String::from_str(alloc, "p")?,
-        row.1.as_bytes().to_vec(alloc)?,
-    ))?;
-    let mut folder = MemFolder::new(alloc, files, failing.to_vec(alloc)?, 100, 7)?;
+// The script and the point end with this status and these lines over a folder, of which these calls
+// fail, and a sink that move few bytes in a call.
+fn point_ends(
+    rt: &impl Abort,
+    alloc: Global,
+    script: &str,
+    point: &str,
+    failing: &[u64],
+    status: Status,
+    lines: &str,
+) -> Result<(), Fail> {
+    let files = [("s", script.as_bytes()), ("p", point.as_bytes())];
+    let mut folder = folder_of(alloc, &files, failing, 100, 7)?;
     let mut out = MemSink::new(alloc, Vec::new(alloc), 300, 5)?;
-    let status = run_at(alloc, NAMES, &mut folder, &mut out);
-    Ok(status == row.2 && out.bytes() == row.3.as_bytes())
+    let ended = run_at(alloc, NAMES, &mut folder, &mut out);
+    equal(rt, lines, failing, ended, status);
+    bytes_are(rt, lines, failing, out.bytes(), lines.as_bytes());
+    Ok(())
 }
 
 #[test]
-fn points_have_their_answers(rt: HostRuntime) {
-    for row in ROWS {
-        assert_eq!(rt; comes(rt.alloc(), row, &[]), Ok(true));
+fn points_have_their_answers(rt: HostRuntime) -> Result<(), Fail> {
+    for (script, point, status, lines) in ROWS {
+        point_ends(&rt, rt.alloc(), script, point, &[], *status, lines)?;
     }
+    Ok(())
 }
 
+// A script, a point and the number of the call that fails, with the status and the lines.
+const FAULTS: &[(&str, &str, u64, Status, &str)] = &[
+    (
+        "{ x in ? }",
+        "x = 1;",
+        2,
+        Status::ReadFault,
+        "read fault: s\n",
+    ),
+    (
+        "{ x in ? }",
+        "x = 1;",
+        4,
+        Status::ReadFault,
+        "read fault: p\n",
+    ),
+];
+
 #[test]
-fn failed_reads_name_their_files(rt: HostRuntime) {
-    let script = ("{ x in ? }", "x = 1;", Status::ReadFault, "read fault: s\n");
-    assert_eq!(rt; comes(rt.alloc(), script, &[2]), Ok(true));
-    let point = ("{ x in ? }", "x = 1;", Status::ReadFault, "read fault: p\n");
-    assert_eq!(rt; comes(rt.alloc(), point, &[4]), Ok(true));
+fn failed_reads_name_their_files(rt: HostRuntime) -> Result<(), Fail> {
+    for (script, point, call, status, lines) in FAULTS {
+        point_ends(&rt, rt.alloc(), script, point, &[*call], *status, lines)?;
+    }
+    Ok(())
 }

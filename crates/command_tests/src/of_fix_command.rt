@@ -1,9 +1,13 @@
 //! What no clause says: that memory is found. Three programs, and what comes of each.
+use crate::equals::{bytes_are, equal, file_is};
+use crate::folders::{folder_of, owned};
 use command_line::FixRequest;
 use command_runs::Status;
 use fix_command::run_fix;
-use fx_edge::{MemFolder, MemSink, SureFolder, SureSink};
-use std::alloc::{AllocError, Global};
+use fx_edge::{MemSink, SureFolder, SureSink};
+use std::alloc::Global;
+use std::process::Abort;
+use std::test::Fail;
 
 const NAMES: FixRequest<'static> = FixRequest {
     program: "p",
@@ -13,7 +17,7 @@ const NAMES: FixRequest<'static> = FixRequest {
 // A program with its status and line, and what the script's file holds then.
 type Row = (&'static str, Status, &'static str, &'static str);
 
-const ROWS: [Row; 3] = [
+const ROWS: &[Row] = &[
     (
         "in x : s16.15 [0,0.5]; y : s16.15 dn = x * x; out y;",
         Status::Answered,
@@ -36,45 +40,52 @@ const ROWS: [Row; 3] = [
     ),
 ];
 
-// The program, and what the script's file held.
-fn files(alloc: Global, program: &str) -> Result<Vec<(String, Vec<u8>)>, AllocError> {
-    let mut files = Vec::new(alloc);
-    files.push((
-        String::from_str(alloc, "p")?,
-        program.as_bytes().to_vec(alloc)?,
-    ))?;
-    files.push((String::from_str(alloc, "s")?, b"old".to_vec(alloc)?))?;
-    Ok(files)
-}
+// What the script's file held.
+const OLD: &[u8] = b"old";
 
-// Whether the row's line and file come over a folder and a sink that move few bytes in a call.
-fn comes_piece_by_piece(alloc: Global, row: Row) -> Result<bool, AllocError> {
-    let mut folder = MemFolder::new(alloc, files(alloc, row.0)?, Vec::new(alloc), 200, 7)?;
+// The program's status, line and file come over a folder and a sink that move few bytes in a call.
+fn comes_piece_by_piece(
+    rt: &impl Abort,
+    alloc: Global,
+    program: &str,
+    status: Status,
+    line: &str,
+    script: &str,
+) -> Result<(), Fail> {
+    let files = [("p", program.as_bytes()), ("s", OLD)];
+    let mut folder = folder_of(alloc, &files, &[], 200, 7)?;
     let mut out = MemSink::new(alloc, Vec::new(alloc), 99, 5)?;
-    let status = run_fix(alloc, NAMES, &mut folder, &mut out);
-    Ok(
-        status == row.1
-            && out.bytes() == row.2.as_bytes()
-            && folder.bytes("s") == Some(row.3.as_bytes()),
-    )
+    let ended = run_fix(alloc, NAMES, &mut folder, &mut out);
+    equal(rt, program, &[], ended, status);
+    bytes_are(rt, program, &[], out.bytes(), line.as_bytes());
+    file_is(rt, program, folder.bytes("s"), script.as_bytes());
+    Ok(())
 }
 
 // The same where all bytes are moved at once.
-fn comes_whole(alloc: Global, row: Row) -> Result<bool, AllocError> {
-    let mut folder = SureFolder::new(alloc, files(alloc, row.0)?, 200)?;
+fn comes_whole(
+    rt: &impl Abort,
+    alloc: Global,
+    program: &str,
+    status: Status,
+    line: &str,
+    script: &str,
+) -> Result<(), Fail> {
+    let files = [("p", program.as_bytes()), ("s", OLD)];
+    let mut folder = SureFolder::new(alloc, owned(alloc, &files)?, 200)?;
     let mut out = SureSink::new(alloc, 99)?;
-    let status = run_fix(alloc, NAMES, &mut folder, &mut out);
-    Ok(
-        status == row.1
-            && out.bytes() == row.2.as_bytes()
-            && folder.bytes("s") == Some(row.3.as_bytes()),
-    )
+    let ended = run_fix(alloc, NAMES, &mut folder, &mut out);
+    equal(rt, program, &[], ended, status);
+    bytes_are(rt, program, &[], out.bytes(), line.as_bytes());
+    file_is(rt, program, folder.bytes("s"), script.as_bytes());
+    Ok(())
 }
 
 #[test]
-fn programs_are_turned(rt: HostRuntime) {
-    for row in ROWS {
-        assert_eq!(rt; comes_piece_by_piece(rt.alloc(), row), Ok(true));
-        assert_eq!(rt; comes_whole(rt.alloc(), row), Ok(true));
+fn programs_are_turned(rt: HostRuntime) -> Result<(), Fail> {
+    for (program, status, line, script) in ROWS {
+        comes_piece_by_piece(&rt, rt.alloc(), program, *status, line, script)?;
+        comes_whole(&rt, rt.alloc(), program, *status, line, script)?;
     }
+    Ok(())
 }
