@@ -10,6 +10,13 @@ use Rattle.script_hints.specs.ReadingLaw.{HintsGrow}
 abbrev pub count : HintReading → ℕ
 count h = length h.reading.known.nodes
 
+-- where no words are left, all are read
+pub words_end : (rs : List Due) (ws : List Word) (h whole : HintReading) → ws ≡ []
+    → whole ≡ read_hints (leaves_of rs ws) h → whole ≡ h
+unfolding read_hints
+words_end [] ws h whole k e = e
+words_end (x ∷ rs) ws h whole k e = e ∙ ap (λ l. read_hints (leaves_of (x ∷ rs) l) h) k
+
 module _ (hints : HintsGrow) where
   words_grow : (ls : List Leaf) (h : HintReading) → count h ≤ count (read_hints ls h)
   unfolding read_hints
