@@ -204,7 +204,7 @@ words_counted text n operators (t ∷ ts) =
 
 readable : (text : List ℕ) (o : Option Refusal) → IsFirstRefusal text o → o ≡ None → IsReadable text
 readable text o (unread h) e = absurd (cc e)
-readable text o (read k h j) e = k
+readable text o (read k h q j) e = k
 
 pub spelled_few_constraints : TokensAreFew → SpelledHaveFewConstraints
 spelled_few_constraints few text view p =
