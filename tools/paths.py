@@ -6,8 +6,8 @@ Use, in the repository:   python3 tools/paths.py [--all | --cited | --write]
 A crate's files cite another by `Rattle.NAME` or `NAME::`, and crates.txt lists what they cite: each
 name is cited by the crate that declares it, which tools/homes.py sees to. A chain leads from a
 crate down to one below it. Ends with 1, and prints a line for each fault: crates.txt lists for a
-crate another one of the repository that no file of it cites; the longest chain is above its number
-in tools/paths.txt. Else it prints nothing.
+crate another one of the repository that no file of it cites, or leaves out one that a file cites;
+the longest chain is above its number in tools/paths.txt. Else it prints nothing.
   --all     prints a line for each crate, too: its longest chain, and what it lists; and the count
   --cited   prints crates.txt without the crates of the repository that aren't cited, and ends
   --write   lowers the numbers of tools/paths.txt to the counts; it raises none
@@ -45,13 +45,18 @@ def texts_of(name):
 
 
 def cited(name):
-    """The words by which a crate's files may cite others."""
-    words = set()
+    """The words by which a crate's files may cite others, and those by which they surely do: a
+    module of the crate may have the name of another crate."""
+    words, sure, modules = set(), set(), set()
     for text in texts_of(name):
-        words.update(re.findall(r"\bRattle\.(\w+)", text))
+        logic = re.findall(r"\bRattle\.(\w+)", text)
+        words.update(logic)
+        sure.update(logic)
         words.update(re.findall(r"\b(\w+)::", text))
         words.update(re.findall(r"(?m)^\s*(?:pub )?use (\w+);", text))
-    return words
+        sure.update(re.findall(r"(?m)^(?:pub )?use (\w+)(?:::|;)", text))
+        modules.update(re.findall(r"(?m)^\s*(?:pub )?mod (\w+)", text))
+    return words, sure - modules
 
 
 def counts(below):
@@ -79,12 +84,14 @@ def main(words):
         print(__doc__, end="", file=sys.stderr)
         return 2
     listed = crates()
-    idle = {}
+    idle, faults = {}, []
     for name, names in listed.items():
-        known = cited(name)
+        known, sure = cited(name)
         idle[name] = [it for it in names if it in listed and it not in known]
-    faults = [f"crates.txt: {name} lists {it}, which no file of it cites"
-              for name, names in idle.items() for it in names]
+        faults += [f"crates.txt: {name} lists {it}, which no file of it cites"
+                   for it in idle[name]]
+        faults += [f"crates.txt: {name} doesn't list {it}, which a file of it cites"
+                   for it in sorted(sure & listed.keys() - {name, *names})]
     if words == ["--cited"]:
         print(*without(read(f"{TOP}/crates.txt"), idle), sep="\n")
         return 0
