@@ -59,12 +59,6 @@ fn joined(alloc: Global, pieces: &[&[u8]]) -> Result<Vec<u8>, AllocError> {
 // What is whole, by step 2.
 const WHOLE: &[&[u8]] = &[HEAD, XS, YS, PRODUCT, LEAF, &[2]];
 
-const NAMES: TrimRequest<'static> = TrimRequest {
-    script: "a",
-    cert: "c",
-    new: "n",
-};
-
 // How a run ends: its status, its lines, where they are looked at, and what the new file holds: its
 // old bytes or a prefix of the new ones, where no bytes are named.
 type End = (Status, Option<&'static str>, Option<&'static [u8]>);
@@ -102,7 +96,12 @@ fn cert_ends(
     let files = [("a", script), ("c", cert), ("n", OLD)];
     let mut folder = folder_of(alloc, &files, failing, 100, 50)?;
     let mut out = SureSink::new(alloc, 100)?;
-    let status = run_trim(alloc, NAMES, &mut folder, &mut out);
+    let request = TrimRequest {
+        script: "a",
+        cert: "c",
+        new: "n",
+    };
+    let status = run_trim(alloc, request, &mut folder, &mut out);
     equal(rt, run, failing, status, end.0);
     lines_are(rt, run, failing, out.bytes(), end.1);
     new_file_is(rt, run, failing, new_file(&folder), end.2);
