@@ -36,7 +36,7 @@ refused_for_length : (text : Bytes) (o : Option Refusal) → IsLong text → IsF
     → o ≡ Some past_bytes
 refused_for_length text o long (first.unread (too_long l)) = refl
 refused_for_length text o long (first.unread (not_text l v)) = absurd (not-le_of_lt long l)
-refused_for_length text o long (first.read h r j) = absurd (not-le_of_lt long h.0)
+refused_for_length text o long (first.read h r s j) = absurd (not-le_of_lt long h.0)
 
 -- it spells no script
 pub no_script : (text : Bytes) (s : View) → IsLong text → ¬ Spells text s
