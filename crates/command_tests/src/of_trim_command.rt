@@ -84,12 +84,12 @@ fn new_file_is(rt: &impl Abort, run: &str, failing: &[u64], found: &[u8], wanted
 }
 
 // The run over this certificate, of which these calls of the folder fail, ends so.
-fn cert_ends(
+fn cert_ends<'x>(
     rt: &impl Abort,
     alloc: Global,
     run: &str,
-    script: &[u8],
-    cert: &[u8],
+    script: &'x [u8],
+    cert: &'x [u8],
     failing: &[u64],
     end: End,
 ) -> Result<(), Fail> {
