@@ -1,9 +1,11 @@
 use Rattle.std.proofs.Common.{◌≡◌, None, true, IsTrue, rules, arith, ap, sym, subst, count_by}
+use Rattle.std.proofs.Common.{length, ◌∙◌}
 use Rattle.std.proofs.lemmas.List.Sums.{count_by-le-length}
 use Rattle.facts.specs.declared.fact.Slot.TheVariants as slot
 use Rattle.derivation.specs.Rounds.{IsBestFrom}
 use Rattle.derivation.specs.Changes.{IsQuiet}
 use Rattle.saturate.specs.declared.kept.Table.{Table}
+use Rattle.saturate.specs.declared.work.Work.{Work}
 use Rattle.saturate.specs.Tables.{fact_at}
 use Rattle.saturate.specs.Universes.{setting_by}
 use Rattle.saturate.specs.Closed.{IsClosedUnder}
@@ -11,10 +13,15 @@ use Rattle.saturate.proofs.Closed.{said_at}
 use Rattle.saturate.proofs.Working.{said_unless}
 use Rattle.saturate.proofs.rounds.settle_due.Goals as goal
 
-pub sweep_from-requires-clause-quiet : goal.sweep_from-requires-clause-quiet
-sweep_from-requires-clause-quiet g c =
+pub rounds_due-requires-clause-due : goal.rounds_due-requires-clause-due
+rounds_due-requires-clause-due g c =
+    ap (λ (w : Work). length w.due.items) c.sweep_from.ensures.work ∙ c.requires.due
+
+pub rounds_due-requires-clause-quiet : goal.rounds_due-requires-clause-quiet
+rounds_due-requires-clause-quiet g c =
     let s = setting_by g.C.Concludes.rules c.args.uni.now in
-    subst (λ l. IsQuiet s l (fact_at c.args.start)) (sym c.deref-2.ensures.value) c.requires.quiet
+    subst (λ (w : Work). IsQuiet s w.due.items (fact_at c.args.start))
+    (sym c.sweep_from.ensures.work) c.requires.quiet
 
 -- the sweep has the steps that the first round leaves
 pub returns-then-not-is_best-clause-cost : goal.returns-then-not-is_best-clause-cost
@@ -23,11 +30,13 @@ returns-then-not-is_best-clause-cost g c = λ best b.
     let first = ap (count_by (λ b. b)) c.deref.ensures.value in
     let all = count_by-le-length (λ b. b) due.items in
     let rounds = c.rounds_due.ensures.cost best b in
+    let same = ap (λ (w : Work). count_by (λ b. b) w.due.items) c.sweep_from.ensures.work in
     omega (
       arith,
       rounds,
       c.sweep_from.ensures.cost,
       c.count_due.ensures,
+      same,
       first,
       all,
       c.requires.due,

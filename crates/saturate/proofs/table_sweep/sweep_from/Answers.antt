@@ -27,8 +27,9 @@ sweep-requires-clause-quiet g c =
     let copy = c.copy_to.new.other in
     let same : fact_at copy ≡ fact_at c.args.start.now =
     (λ k x. copy_same c.args.start.now copy c.in_ok-copy_to.ensures x k) in
-    subst (λ l. IsQuiet s l (fact_at copy)) (sym c.in_ok-begin_with.ensures.due)
-    (subst (IsQuiet s c.args.due.now) (sym same) c.requires.quiet)
+    subst (λ l. IsQuiet s l (fact_at copy))
+    (sym (c.in_ok-begin_with.ensures.due ∙ c.deref.ensures.value))
+    (subst (IsQuiet s c.args.area.now.work.due.items) (sym same) c.requires.quiet)
 
 pub returns-clause-best : goal.returns-clause-best
 returns-clause-best g c =
