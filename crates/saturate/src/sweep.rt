@@ -170,14 +170,23 @@ fn height_now<C: Concludes, K: Sweeps<C>>(
     }
 }
 
-// Takes what the instance with this number concluded from premises of this height, whose target has
-// this place.
+// What an instance concluded.
+#[derive(Clone, Copy)]
+struct Found {
+    // The number of the instance, from 0.
+    instance: usize,
+    // The place of its target among all slots of the universe.
+    place: u16,
+    // The conclusion: a fact on the target, or VOID.
+    fact: Fact,
+}
+
+// Takes what an instance concluded from premises of the height `top`. It stands one higher; if it
+// says more than is known, and that is above `height`, the sweep is lost.
 #[inline(always)]
 fn take<C: Concludes, K: Sweeps<C>>(
     uni: &Universe,
-    k: usize,
-    place: u16,
-    c: Fact,
+    found: Found,
     top: u8,
     height: u8,
     kept: &mut K,
@@ -187,12 +196,13 @@ fn take<C: Concludes, K: Sweeps<C>>(
     requires swept { (first : At) × IsSwept (setting_by C.rules uni.now) uni.now first height
         (K.facts uni.now kept.old) work.old.heights.items }
     requires long { length work.old.due.items ≡ length uni.now.instances }
-    requires concluded { IsConcludedBy C.rules uni.now (K.facts uni.now kept.old) k place c }
+    requires concluded { IsConcludedBy C.rules uni.now (K.facts uni.now kept.old)
+        found.instance found.place found.fact }
     ensures taken { IfOk result (λ course. (first : At)
         → IsSwept (setting_by C.rules uni.now) uni.now first height (K.facts uni.now kept.old)
         work.old.heights.items
-        → Derives (setting_by C.rules uni.now) (InTable first) (suc top) c
-        → IsQuietApart (setting_by C.rules uni.now) k work.old.due.items
+        → Derives (setting_by C.rules uni.now) (InTable first) (suc top) found.fact
+        → IsQuietApart (setting_by C.rules uni.now) found.instance work.old.due.items
         (K.facts uni.now kept.old)
         → IsCourse course (IsSweeping (setting_by C.rules uni.now) uni.now first height
         (K.facts uni.now kept.new) work.new.heights.items work.new.due.items)
@@ -204,6 +214,11 @@ fn take<C: Concludes, K: Sweeps<C>>(
     uni.laws();
     C::rules_are_lawful();
     K::sweeps_are_whole();
+    let Found {
+        instance: k,
+        place,
+        fact: c,
+    } = found;
     let taken = kept.take(uni, k, place, c)?;
     match taken {
         Taken::Same => Ok(Course::On),
@@ -270,7 +285,14 @@ fn visit<C: Concludes, K: Sweeps<C>>(
     *left -= 1;
     let place = target_place(uni, k);
     match steps.conclude(uni.dag(), uni.hints(), instance, &work.premises) {
-        Some(c) => take::<C, K>(uni, k, place, c, top, height, kept, work),
+        Some(c) => {
+            let found = Found {
+                instance: k,
+                place,
+                fact: c,
+            };
+            take::<C, K>(uni, found, top, height, kept, work)
+        }
         None => Ok(Course::On),
     }
 }

@@ -16,24 +16,26 @@ use Rattle.saturate.proofs.sweep.take.Goals as goal
 pub returns-in-Same-clause-taken : goal.returns-in-Same-clause-taken
 returns-in-Same-clause-taken g c = λ first w d apart.
     let u = c.args.uni.now in
+    let f = c.args.found in
     let s = setting_by g.C.Concludes.rules u in
     let at = g.K.Sweeps.facts u c.args.kept.now in
     let new = g.K.Sweeps.facts u c.take.new.self in
     let i = c.requires.concluded in
     let heights = c.args.work.now.heights.items in
     let due = c.args.work.now.due.items in
-    let come = subst (λ t. IsTaken t at new c.args.c) c.in-Same.is c.in_ok-taken.ensures.taken in
+    let come = subst (λ t. IsTaken t at new f.fact) c.in-Same.is c.in_ok-taken.ensures.taken in
     subst (λ (x : At). IsSweeping s u first c.args.height x heights due) (sym come.0)
     (sweeping_same s u c.laws.ensures.universe.once
     (c.rules_are_lawful.ensures u.nodes u.hints).on_target first c.args.height at heights w
-    c.args.k i.0 i.1 c.args.c i.2 due apart c.requires.long come.1.0
-    (subst (λ (x : At). Improves at x c.args.c come.1.0) come.0 come.1.1))
+    f.instance i.0 i.1 f.fact i.2 due apart c.requires.long come.1.0
+    (subst (λ (x : At). Improves at x f.fact come.1.0) come.0 come.1.1))
 
 pub index-old-requires : goal.index-old-requires
 index-old-requires g c =
     let u = c.args.uni.now in
+    let f = c.args.found in
     let w = c.requires.concluded in
-    let l = place_within (length u.nodes) u.pairs (w.0).target c.args.place w.3 in
+    let l = place_within (length u.nodes) u.pairs (w.0).target f.place w.3 in
     let n = (c.requires.swept.1).count in
     let o = c.args.work.now.heights.ok.0 in
     omega (arith, l, n, o)
@@ -41,8 +43,9 @@ index-old-requires g c =
 pub index_mut-requires : goal.index_mut-requires
 index_mut-requires g c =
     let u = c.args.uni.now in
+    let f = c.args.found in
     let w = c.requires.concluded in
-    let l = place_within (length u.nodes) u.pairs (w.0).target c.args.place w.3 in
+    let l = place_within (length u.nodes) u.pairs (w.0).target f.place w.3 in
     let n = (c.requires.swept.1).count in
     let o = c.args.work.now.heights.ok.0 in
     omega (arith, l, n, o)
@@ -50,13 +53,14 @@ index_mut-requires g c =
 pub height_now-requires-clause-placed : goal.height_now-requires-clause-placed
 height_now-requires-clause-placed g c =
     let u = c.args.uni.now in
+    let f = c.args.found in
     let w = c.requires.concluded in
     let at = g.K.Sweeps.facts u c.args.kept.now in
     let new = g.K.Sweeps.facts u c.take.new.self in
-    let come = subst (λ t. IsTaken t at new c.args.c) c.in-More.is c.in_ok-taken.ensures.taken in
+    let come = subst (λ t. IsTaken t at new f.fact) c.in-More.is c.in_ok-taken.ensures.taken in
     concluded_place (g.C.Concludes.rules u.nodes u.hints)
-    (c.rules_are_lawful.ensures u.nodes u.hints).on_target at new w.0 c.args.c come.1.0 w.2
-    come.1.1 come.0 (length u.nodes) u.pairs c.args.place w.3
+    (c.rules_are_lawful.ensures u.nodes u.hints).on_target at new w.0 f.fact come.1.0 w.2
+    come.1.1 come.0 (length u.nodes) u.pairs f.place w.3
 
 pub mark_users-requires : goal.mark_users-requires
 mark_users-requires g c = λ k x.
@@ -70,28 +74,29 @@ mark_users-requires g c = λ k x.
 pub returns-else-top-height-clause-taken : goal.returns-else-top-height-clause-taken
 returns-else-top-height-clause-taken g c = λ first w d apart.
     let u = c.args.uni.now in
+    let f = c.args.found in
     let s = setting_by g.C.Concludes.rules u in
     let at = g.K.Sweeps.facts u c.args.kept.now in
     let new = g.K.Sweeps.facts u c.take.new.self in
     let i = c.requires.concluded in
-    let come = subst (λ t. IsTaken t at new c.args.c) c.in-More.is c.in_ok-taken.ensures.taken in
+    let come = subst (λ t. IsTaken t at new f.fact) c.in-More.is c.in_ok-taken.ensures.taken in
     let due = c.args.work.now.due in
     let heights = c.args.work.now.heights.items in
     let after = c.mark_users.new.due in
     let long : length after ≡ length due.items =
     omega (arith, c.mark_users.auto.due, ap length c.deref_mut.ensures.value) in
-    let inside = place_within (length u.nodes) u.pairs (i.0).target c.args.place i.3 in
+    let inside = place_within (length u.nodes) u.pairs (i.0).target f.place i.3 in
     let n = w.count in
-    let there : slice_get heights c.args.place ≡ Some c.index-old.result.now =
-    got heights c.args.place c.index-old.result.now (omega (arith, inside, n))
+    let there : slice_get heights f.place ≡ Some c.index-old.result.now =
+    got heights f.place c.index-old.result.now (omega (arith, inside, n))
     c.index-old.ensures in
     subst (λ l. IsSweeping s u first c.args.height new
-    (slice_set heights c.args.place c.height_now.result) l)
+    (slice_set heights f.place c.height_now.result) l)
     (sym (written_back after due.items due.len long due.ok.0))
     (sweeping_more s u c.laws.ensures.universe.once
-    (c.rules_are_lawful.ensures u.nodes u.hints).on_target first c.args.height at heights w c.args.k
-    i.0 i.1 c.args.c i.2 due.items apart c.requires.long new come.1.0 come.1.1 come.0 c.args.place
-    (suc c.args.top) c.index-old.result.now c.height_now.result i.3 there d
+    (c.rules_are_lawful.ensures u.nodes u.hints).on_target first c.args.height at heights w
+    f.instance i.0 i.1 f.fact i.2 due.items apart c.requires.long new come.1.0 come.1.1 come.0
+    f.place (suc c.args.top) c.index-old.result.now c.height_now.result i.3 there d
     (omega (arith, c.if-top-height.false)) (omega (arith, c.height_now.ensures.above))
     c.height_now.ensures.old after long
     (λ j e. c.mark_users.ensures.kept j
@@ -103,10 +108,11 @@ returns-else-top-height-clause-taken g c = λ first w d apart.
 pub returns-then-top-height-2-clause-taken : goal.returns-then-top-height-2-clause-taken
 returns-then-top-height-2-clause-taken g c = λ first w d apart.
     let u = c.args.uni.now in
+    let f = c.args.found in
     let at = g.K.Sweeps.facts u c.args.kept.now in
     let new = g.K.Sweeps.facts u c.take.new.self in
-    let come = subst (λ t. IsTaken t at new c.args.c) c.in-Void.is c.in_ok-taken.ensures.taken in
+    let come = subst (λ t. IsTaken t at new f.fact) c.in-Void.is c.in_ok-taken.ensures.taken in
     swept_void (setting_by g.C.Concludes.rules u) u first c.args.height at new
-    c.args.work.now.heights.items w c.args.c come.1.0 come.1.1
+    c.args.work.now.heights.items w f.fact come.1.0 come.1.1
     (c.sweeps_are_whole.ensures.proper u c.take.new.self c.in_ok-taken.ensures.fits) come.0
     (suc c.args.top) d (omega arith)
