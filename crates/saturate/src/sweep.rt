@@ -39,6 +39,8 @@ pub struct SweepWork {
     heights: Vec<u8>,
     // The premises of one instance.
     premises: Vec<Fact>,
+    // How many steps the sweep may take yet.
+    left: usize,
 }
 
 impl SweepWork {
@@ -48,6 +50,7 @@ impl SweepWork {
             due: Vec::new(alloc),
             heights: Vec::new(alloc),
             premises: Vec::new(alloc),
+            left: 0,
         }
     }
 
@@ -210,6 +213,7 @@ fn take<C: Concludes, K: Sweeps<C>>(
     ensures fits { IfOk result (λ _. K.fits uni.now kept.new) }
     ensures came { IfOk result (λ _. (first : K)
         → K.came uni.now first kept.old → K.came uni.now first kept.new) }
+    ensures left { work.new.left ≡ work.old.left }
 {
     uni.laws();
     C::rules_are_lawful();
@@ -251,7 +255,6 @@ fn visit<C: Concludes, K: Sweeps<C>>(
     height: u8,
     kept: &mut K,
     work: &mut SweepWork,
-    left: &mut usize,
     steps: &mut C,
 ) -> Result<Course, AllocError>
     requires within { k < length uni.now.instances }
@@ -267,7 +270,7 @@ fn visit<C: Concludes, K: Sweeps<C>>(
     ensures fits { IfOk result (λ _. K.fits uni.now kept.new) }
     ensures came { IfOk result (λ _. (first : K)
         → K.came uni.now first kept.old → K.came uni.now first kept.new) }
-    ensures cost { C.asked steps.new + left.new ≤ C.asked steps.old + left.old }
+    ensures cost { C.asked steps.new + work.new.left ≤ C.asked steps.old + work.old.left }
 {
     uni.laws();
     C::rules_are_lawful();
@@ -279,10 +282,10 @@ fn visit<C: Concludes, K: Sweeps<C>>(
     let Some(top) = read else {
         return Ok(Course::On);
     };
-    if *left == 0 {
+    if work.left == 0 {
         return Ok(Course::Lost);
     }
-    *left -= 1;
+    work.left -= 1;
     let place = target_place(uni, k);
     match steps.conclude(uni.dag(), uni.hints(), instance, &work.premises) {
         Some(c) => {
@@ -303,7 +306,6 @@ fn pass<C: Concludes, K: Sweeps<C>>(
     height: u8,
     kept: &mut K,
     work: &mut SweepWork,
-    left: &mut usize,
     steps: &mut C,
 ) -> Result<Course, AllocError>
     requires fits { K.fits uni.now kept.old }
@@ -318,11 +320,11 @@ fn pass<C: Concludes, K: Sweeps<C>>(
     ensures fits { IfOk result (λ _. K.fits uni.now kept.new) }
     ensures came { IfOk result (λ _. (first : K)
         → K.came uni.now first kept.old → K.came uni.now first kept.new) }
-    ensures cost { C.asked steps.new + left.new ≤ C.asked steps.old + left.old }
+    ensures cost { C.asked steps.new + work.new.left ≤ C.asked steps.old + work.old.left }
 {
     for k in uni.order() {
         if work.due[*k as usize] {
-            let course = visit::<C, K>(uni, *k as usize, height, kept, work, left, steps)?;
+            let course = visit::<C, K>(uni, *k as usize, height, kept, work, steps)?;
             match course {
                 Course::On => {}
                 ended => return Ok(ended),
@@ -361,9 +363,9 @@ pub(crate) fn sweep<C: Concludes, K: Sweeps<C>>(
     uni.laws();
     C::rules_are_lawful();
     K::sweeps_are_whole();
-    let mut left = budget;
+    work.left = budget;
     for _ in 0..PASSES {
-        let course = pass::<C, K>(uni, height, kept, work, &mut left, steps)?;
+        let course = pass::<C, K>(uni, height, kept, work, steps)?;
         match course {
             Course::On => {}
             Course::Best => return Ok(true),

@@ -49,7 +49,6 @@ loop-k-preserved g c =
             cost = omega (
               arith,
               ap g.C.Concludes.asked w.steps-is,
-              w.left-is,
               w.visit.ensures.cost,
               c.loop-k.invariant.cost,
             );
@@ -63,7 +62,6 @@ loop-k-preserved g c =
             cost = omega (
               arith,
               ap g.C.Concludes.asked w.steps-is,
-              w.left-is,
               c.loop-k.invariant.cost,
             );
           })

@@ -14,6 +14,6 @@ invariant-loop-k g l = record {
   fits : g.K.Sweeps.fits l.uni l.kept;
   came : (first : _) → g.K.Sweeps.came l.uni first l.initial.kept
       → g.K.Sweeps.came l.uni first l.kept;
-  cost : g.C.Concludes.asked l.steps + l.left
-      ≤ g.C.Concludes.asked l.initial.steps + l.initial.left;
+  cost : g.C.Concludes.asked l.steps + l.work.left
+      ≤ g.C.Concludes.asked l.initial.steps + l.initial.work.left;
 }

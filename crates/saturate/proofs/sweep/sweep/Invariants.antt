@@ -10,5 +10,5 @@ invariant-loop g l = record {
       l.work.heights.items l.work.due.items;
   fits : g.K.Sweeps.fits l.uni l.kept;
   came : g.K.Sweeps.came l.uni l.fn.kept l.kept;
-  cost : g.C.Concludes.asked l.steps + l.left ≤ g.C.Concludes.asked l.fn.steps + l.fn.budget;
+  cost : g.C.Concludes.asked l.steps + l.work.left ≤ g.C.Concludes.asked l.fn.steps + l.fn.budget;
 }
