@@ -15,7 +15,7 @@ use crate::log::Log;
 use facts::Slot;
 use fx_model::ExprId;
 use rule_universe::Universe;
-use saturate::{Steps, Work, all_rounds, rounds_below};
+use saturate::{Change, Steps, Work, all_rounds, rounds_below};
 use std::alloc::{AllocError, Global};
 use std::marker::Brand;
 use std::sync::ledger::{Blank, Ledger};
@@ -43,7 +43,14 @@ fn run<L: Ledger>(
         → IsClosedUnder (setting_of uni.now) (known_at uni.now gathering.new.log.known)) }
 {
     match changed {
-        Some(x) => rounds_below(uni, gathering, Some(Slot::Bnd(x)), x.0, height, work, steps),
+        Some(x) => {
+            let change = Change {
+                slot: Some(Slot::Bnd(x)),
+                place: x.0,
+                height,
+            };
+            rounds_below(uni, gathering, change, work, steps)
+        }
         None => all_rounds(uni, gathering, height, work, steps),
     }
 }

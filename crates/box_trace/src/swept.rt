@@ -12,7 +12,7 @@ use crate::sweeping::Sweeping;
 use facts::Slot;
 use fx_model::ExprId;
 use rule_universe::Universe;
-use saturate::{Steps, SweepWork, sweep_below};
+use saturate::{Change, Steps, SweepWork, sweep_below};
 use std::alloc::{AllocError, Global};
 use std::marker::Brand;
 use std::sync::ledger::{Blank, Ledger};
@@ -47,12 +47,15 @@ fn swept_blank<L: Ledger>(
     let mut steps = Steps::<L>::new(blank);
     let mut work = SweepWork::new(alloc);
     let mut sweeping = Sweeping::over(alloc, log);
+    let change = Change {
+        slot: Some(Slot::Bnd(x)),
+        place: x.0,
+        height,
+    };
     let best = sweep_below(
         uni,
         &mut sweeping,
-        Some(Slot::Bnd(x)),
-        x.0,
-        height,
+        change,
         usize::MAX,
         &mut work,
         &mut steps,

@@ -9,6 +9,7 @@ ghost use Rattle.saturate.specs.Boxes.{IsSomeBoxIn, IsItsTableIn, IsItsStateIn, 
 ghost use Rattle.saturate.specs.Boxes.{IsItsTable, IsItsState, table_of, state_of};
 
 use crate::area::Area;
+use crate::change::Change;
 use crate::conclusions::Concludes;
 use crate::improve::improve;
 use crate::judge::judge;
@@ -53,7 +54,12 @@ fn settle_child<C: Concludes>(
     let place = (piece.0).0;
     let changed = improve(&mut start, Fact::Bnd(piece.0, piece.1), place);
     if parent.closed {
-        rounds_from(uni, start, changed, place, height, area, steps)
+        let change = Change {
+            slot: changed,
+            place,
+            height,
+        };
+        rounds_from(uni, start, change, area, steps)
     } else {
         rounds(uni, start, height, area, steps)
     }

@@ -17,6 +17,7 @@ ghost use Rattle.saturate.specs.Keeping.{IsConcludedBy};
 ghost use Rattle.saturate.specs.Sweeping.{IsSwept, IsSweeping, IsQuietApart, IsRead, AreAtMost};
 ghost use Rattle.saturate.specs.Sweeping.{NoneDue, IsCourse, IsEnded};
 
+use crate::change::Change;
 use crate::conclusions::Concludes;
 use crate::instances::{instance_at, target_place};
 use crate::marks::{mark_from, mark_users};
@@ -378,27 +379,27 @@ pub(crate) fn sweep<C: Concludes, K: Sweeps<C>>(
     Ok(false)
 }
 
-/// Lets come the best facts of at most this height over those that are kept, by a sweep, where only
-/// instances that take the changed slot, if there is one, may have something to add. It is true
-/// where it came to that. No more conclusions are asked for than `budget`.
+/// Lets come the best facts of at most the change's height over those that are kept, by a sweep,
+/// where only instances that take the changed slot, if there is one, may have something to add. It
+/// is true where it came to that. No more conclusions are asked for than `budget`.
 pub fn sweep_below<C: Concludes, K: Sweeps<C>>(
     uni: &Universe,
     kept: &mut K,
-    changed: Option<Slot>,
-    place: u16,
-    height: u8,
+    change: Change,
     budget: usize,
     work: &mut SweepWork,
     steps: &mut C,
 ) -> Result<bool, AllocError>
     requires fits { K.fits uni.now kept.old }
     requires no_void { K.facts uni.now kept.old slot.Void ≡ None }
-    requires placed { IfSome changed (λ s. IsPlace (length uni.now.nodes) uni.now.pairs s place) }
-    requires quiet { IsQuietBut (setting_by C.rules uni.now) changed (K.facts uni.now kept.old) }
+    requires placed { IfSome change.slot (λ s.
+        IsPlace (length uni.now.nodes) uni.now.pairs s change.place) }
+    requires quiet { IsQuietBut (setting_by C.rules uni.now) change.slot
+        (K.facts uni.now kept.old) }
     // Where it's true, the facts are the best that derivations of this height conclude from those
     // before.
     ensures best { IfOk result (λ best. IsTrue best → IsBestFrom (setting_by C.rules uni.now)
-        (K.facts uni.now kept.old) height (K.facts uni.now kept.new)) }
+        (K.facts uni.now kept.old) change.height (K.facts uni.now kept.new)) }
     // Then no instance concludes more, unless VOID is known.
     ensures closed { IfOk result (λ best. IsTrue best → K.facts uni.now kept.new slot.Void ≡ None
         → IsClosedUnder (setting_by C.rules uni.now) (K.facts uni.now kept.new)) }
@@ -412,6 +413,6 @@ pub fn sweep_below<C: Concludes, K: Sweeps<C>>(
         return Ok(false);
     }
     work.begin(uni)?;
-    mark_from(uni, changed, place, &mut work.due);
-    sweep(uni, height, budget, kept, work, steps)
+    mark_from(uni, change, &mut work.due);
+    sweep(uni, change.height, budget, kept, work, steps)
 }

@@ -8,7 +8,7 @@ use Rattle.saturate.proofs.rounds.rounds_from.Goals as goal
 
 pub returns-then-start-clause-best : goal.returns-then-start-clause-best
 returns-then-start-clause-best g c =
-    void_best (setting_by g.C.Concludes.rules c.args.uni.now) c.args.start c.args.height
+    void_best (setting_by g.C.Concludes.rules c.args.uni.now) c.args.start c.args.change.height
     c.if-start.true
 
 pub settle_due-requires-clause-quiet : goal.settle_due-requires-clause-quiet
