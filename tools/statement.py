@@ -40,7 +40,7 @@ SUBJECTS = (
     ("Facts", "facts goals"),
     ("Rules", "theorem_arith theorem_fix theorem_rel rewrite_rules theorem_list"),
     ("Scripts", "script_words script_shape script_cases goal_spans script_bounds script_nodes "
-     "script_claims script_hints script_judge node_counts script_grammar script_meets"),
+     "script_claims script_hints script_judge script_grammar script_meets"),
     ("Boxes and answers", "rule_instances derivation rule_universe saturate rewrite_hints universe "
      "proof_options box_tree bisect case_trees accounts box_deques fact_board box_workers "
      "job_workers script_truths settler"),

@@ -20,7 +20,7 @@ use Rattle.script_claims.specs.declared.claim.Claim.TheVariants.{Bounded, Asked,
 use Rattle.script_claims.specs.declared.claim.Claim.TheVariants.{RelativeAsked, Multiple, Above}
 use Rattle.script_claims.specs.declared.claim.Claim.TheVariants.{Below}
 use Rattle.script_claims.specs.Facts.{hypothesis_fact, slot_of, goal_of, with_fact, facts_of}
-use Rattle.node_counts.specs.Few.{HasFewHints}
+use Rattle.script_grammar.specs.CountedHints.{HasFewHints}
 use Rattle.script_grammar.specs.Spells.{View, SpelledAreShort}
 use Rattle.script_grammar.specs.Names.{ClaimIsOf}
 use Rattle.script_grammar.specs.Cases.{cases_of}

@@ -8,7 +8,7 @@ use Rattle.expr_dag.specs.Nodes.{IsAt, IsLawful}
 use Rattle.goals.specs.declared.goal.Goal.{Goal}
 use Rattle.script_claims.specs.declared.claim.Claim.{Claim}
 use Rattle.script_claims.specs.Facts.{facts_of}
-use Rattle.node_counts.specs.Few.{HasFewHints}
+use Rattle.script_grammar.specs.CountedHints.{HasFewHints}
 use Rattle.script_grammar.specs.Spells.{View, Spells}
 use Rattle.script_grammar.specs.Names.{NamesNodes}
 use Rattle.script_grammar.specs.Cases.{cases_of}

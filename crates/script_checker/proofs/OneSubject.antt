@@ -3,7 +3,7 @@ use Rattle.std.proofs.Common.{◌≡◌, ◌≤◌, ◌<◌, Result, Ok, Err, le
 use Rattle.std.specs.Prelude.{IfOk}
 use Rattle.std.proofs.lemmas.List.{length-map}
 use Rattle.script_claims.specs.Facts.{goal_of}
-use Rattle.node_counts.specs.Few.{HasFewHints}
+use Rattle.script_grammar.specs.CountedHints.{HasFewHints}
 use Rattle.script_grammar.specs.Spells.{View}
 use Rattle.rewrite_hints.specs.Marks.{AreMarks}
 use Rattle.rewrite_hints.proofs.MarksLaws.{marks_are_one, rows_are_one}

@@ -26,9 +26,9 @@ use Rattle.script_judge.specs.Front.{front_closed, front_after, read_front, fron
 use Rattle.script_judge.specs.Front.{said_in, front_leaves, ReadsFronts}
 use Rattle.script_judge.specs.Judging.{SplitsNone}
 use Rattle.script_judge.proofs.FrontsRead.{StaysAt, formula_stays, script_said}
-use Rattle.node_counts.proofs.FewHints.{hints_of}
-use Rattle.node_counts.proofs.WordRoles.{IsOfDefinition, IsOfProp, definition_roles, prop_roles}
 use Rattle.script_grammar.specs.Judgement.{formula_end, has_formula}
+use Rattle.script_grammar.proofs.FewHints.{hints_of}
+use Rattle.script_grammar.proofs.WordRoles.{IsOfDefinition, IsOfProp, definition_roles, prop_roles}
 
 abbrev pub roles : List Leaf → List Due
 roles ls = map (λ l. l.role) ls

@@ -29,7 +29,7 @@ use Rattle.script_judge.specs.SplitViews.{said_by}
 use Rattle.script_judge.proofs.Faulted.{leaves_take, leaves_length, leaves_front}
 use Rattle.script_judge.proofs.FrontsRead.{script_said}
 use Rattle.script_judge.proofs.Turns.{judged_behind}
-use Rattle.node_counts.specs.Counted.{known_behind, NodesAreCounted, CasesAreCounted}
+use Rattle.script_grammar.specs.Counted.{known_behind, NodesAreCounted, CasesAreCounted}
 use Rattle.script_grammar.specs.Judgement.{formula_end, has_formula, AreRead, IsFormulaOf}
 use Rattle.script_grammar.specs.Judgement.{IsPassedFront}
 use Rattle.script_grammar.proofs.FrontLeaves.{roles, said_by_front, front_taken, same_end, unsplit}

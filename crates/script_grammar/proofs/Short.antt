@@ -21,9 +21,10 @@ use Rattle.script_nodes.specs.Known.{Known, nothing_known}
 use Rattle.script_nodes.specs.Definitions.{definition_value}
 use Rattle.script_claims.specs.declared.claim.Claim.{Claim}
 use Rattle.script_claims.specs.Claims.{PartsHaveHypotheses}
-use Rattle.node_counts.specs.Counted.{known_behind, NodesAreCounted}
-use Rattle.node_counts.specs.Few.{HasFewHints, hints_behind, HintsAreFew, goals_behind, GoalsAreFew}
-use Rattle.node_counts.specs.Ranges.{HaveFewCases, parts_behind, SplitsHaveRanges}
+use Rattle.script_grammar.specs.Counted.{known_behind, NodesAreCounted}
+use Rattle.script_grammar.specs.CountedHints.{HasFewHints, hints_behind, HintsAreFew, goals_behind}
+use Rattle.script_grammar.specs.CountedHints.{GoalsAreFew}
+use Rattle.script_grammar.specs.SplitRanges.{HaveFewCases, parts_behind, SplitsHaveRanges}
 use Rattle.script_grammar.specs.Meaning.{Meaning, meaning_from}
 use Rattle.script_grammar.specs.Steps.{read_leaves}
 use Rattle.script_grammar.specs.Spells.{View, view_of, Spells, SpelledAreShort}

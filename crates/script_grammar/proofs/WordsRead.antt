@@ -9,10 +9,10 @@ use Rattle.script_hints.specs.Hints.{no_hints}
 use Rattle.script_hints.specs.ReadingLaw.{ReadsHints}
 use Rattle.script_judge.specs.Said.{claims_behind}
 use Rattle.script_judge.specs.Front.{front_closed, read_front, no_front, front_leaves, ReadsFronts}
-use Rattle.node_counts.proofs.FewHints.{hints_of}
 use Rattle.script_grammar.specs.Meaning.{meaning_from, body_meaning}
 use Rattle.script_grammar.specs.Steps.{said_behind, read_behind, ReadsScripts}
 use Rattle.script_grammar.specs.Judgement.{formula_end}
+use Rattle.script_grammar.proofs.FewHints.{hints_of}
 use Rattle.script_grammar.proofs.FrontLeaves.{roles, front_taken, front_left}
 
 meaning_in : (tree : Script) (k : Known)

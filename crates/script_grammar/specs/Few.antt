@@ -1,7 +1,7 @@
 -- A script that a text spells has few hints, few goals and few constraints.
 use Rattle.std.specs.Prelude.{ℕ, ◌≤◌, ◌+◌, ◌^◌, List, [], ◌∷◌, length}
 use Rattle.script_hints.specs.declared.hint.Hint.{Hint}
-use Rattle.node_counts.specs.Few.{HasFewHints}
+use Rattle.script_grammar.specs.CountedHints.{HasFewHints}
 use Rattle.script_grammar.specs.Spells.{View, Spells}
 
 -- Its hints are few.

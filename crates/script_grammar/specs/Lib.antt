@@ -1,3 +1,6 @@
+pub mod Counted
+pub mod CountedHints
+pub mod SplitRanges
 pub mod Meaning
 pub mod Steps
 pub mod Spells

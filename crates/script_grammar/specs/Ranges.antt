@@ -2,7 +2,7 @@
 use Rattle.std.specs.Prelude.{◌≡◌, ℕ, ◌≤◌, List, length}
 use Rattle.std.specs.List.{AllByRecursion}
 use Rattle.script_cases.specs.Cases.{cases, all_items}
-use Rattle.node_counts.specs.Ranges.{HaveRanges}
+use Rattle.script_grammar.specs.SplitRanges.{HaveRanges}
 use Rattle.script_grammar.specs.Spells.{View, Spells}
 
 -- In a script that a text spells some hypothesis of each case gives each variable that the hints

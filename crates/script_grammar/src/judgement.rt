@@ -12,8 +12,8 @@ ghost use Rattle.script_judge.specs.Judging.{IsFirstFault};
 ghost use Rattle.script_grammar.specs.Judgement as spec;
 ghost use Rattle.script_grammar.specs.Judgement.{AreRead, IsJudgement, IsFormulaOf, IsPassedFront};
 
+use crate::counts::{cases_are_counted, nodes_are_counted};
 use expr_dag::DagFault;
-use node_counts::{cases_are_counted, nodes_are_counted};
 use script_judge::reading::{at_word, fault, read_as_script, text_refusal};
 use script_judge::{
     Formula, Front, Judging, ReadText, Refusal, first_of, fronts_are_read, read_front,

@@ -8,8 +8,8 @@ ghost use Rattle.script_grammar.specs.Spells.{SpellsOnce, NeverBoth, SpellsAll, 
 ghost use Rattle.script_grammar.specs.Spells.{GoalsHaveSpans, SpelledAreShort};
 ghost use Rattle.script_grammar.specs.Read.{SpelledAreRead};
 
+use crate::counts::{goals_are_counted, hints_are_counted, nodes_are_counted, splits_have_ranges};
 use goal_spans::spans_are_read;
-use node_counts::{goals_are_counted, hints_are_counted, nodes_are_counted, splits_have_ranges};
 use script_claims::parts_have_hypotheses;
 use script_hints::laws::reads_hints;
 use script_judge::{firsts_are_unique, fronts_are_read, reads_scripts};

@@ -4,6 +4,7 @@
 // What callers name of the crates below.
 pub use script_judge::{LimitKind, Refusal, RefusalKind};
 
+mod counts;
 mod hints;
 mod judgement;
 mod laws;

@@ -6,8 +6,8 @@ ghost use Rattle.fx_model.specs.Expression.{IsOrdered};
 ghost use Rattle.script_cases.specs.Cases.{cases};
 ghost use Rattle.script_claims.specs.Facts.{HasNormalBounds as HasNormalClaimBounds};
 ghost use Rattle.script_hints.specs.Needs.{HasNormalBounds};
-ghost use Rattle.node_counts.specs.Few.{HasFewHints};
-ghost use Rattle.node_counts.specs.Ranges.{HaveRanges};
+ghost use Rattle.script_grammar.specs.CountedHints.{HasFewHints};
+ghost use Rattle.script_grammar.specs.SplitRanges.{HaveRanges};
 ghost use Rattle.script_grammar.specs.Ranges.{HasFewCases};
 ghost use Rattle.script_grammar.specs.Names.{NamesNodes};
 

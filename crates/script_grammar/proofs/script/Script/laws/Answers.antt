@@ -1,8 +1,8 @@
 use Rattle.std.proofs.Common.{◌≤◌, length, subst}
 use Rattle.std.specs.List.{AllByRecursion}
 use Rattle.script_cases.specs.Cases.{cases}
-use Rattle.node_counts.specs.Few.{HasFewHints}
-use Rattle.node_counts.specs.Ranges.{HaveRanges}
+use Rattle.script_grammar.specs.CountedHints.{HasFewHints}
+use Rattle.script_grammar.specs.SplitRanges.{HaveRanges}
 use Rattle.script_grammar.specs.Ranges.{HasFewCases}
 use Rattle.script_grammar.specs.Names.{NamesNodes}
 use Rattle.script_grammar.specs.Spells.{View}

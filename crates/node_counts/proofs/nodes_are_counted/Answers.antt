@@ -1,6 +1,0 @@
-use Rattle.node_counts.proofs.ScriptCounts.{nodes_are_counted}
-use Rattle.node_counts.proofs.nodes_are_counted.Goals as goal
-
-pub returns : goal.returns
-returns c = nodes_are_counted c.reads_trees.ensures c.formulas_are_read.ensures
-    c.reads_hints.ensures c.leaves_are_of_trees.ensures.spell c.roles_are_unique.ensures
